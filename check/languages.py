@@ -24,10 +24,10 @@ from repository import PROGRAM
 SAME = {
     "the same word in both languages": "an in In so was Name Code Version Text Divisor Exit",
     "German words that the English texts take over": "Land Länder Bundestag Bundeswahlgesetz Mehrheitsklausel",
-    "names of the words of a command, and values of an option": "BOOK CODE NAME OUT RETURNS de en",
+    "names of the words of a command, and values of an option": "BOOK CODE NAME OUT RETURNS de en webster jefferson adams dean hill hamilton",
     "names of laws and stages of the library": "of order pool",
     "names of formats and encodings": "ASCII BOM CSV HTML JSON Latin Markdown SLC UTF Unicode gzip zip",
-    "names of programs, people and files": "Droop Excel Hare LibreOffice Niemeyer Windows kerg",
+    "names of programs, people and files": "Droop Excel Hare Hondt Lagu LibreOffice Niemeyer Sainte Windows kerg",
 }
 ALLOWED = {word for words in SAME.values() for word in words.split()}
 

@@ -70,8 +70,8 @@ class Scope(NamedTuple):
 
 
 class Entry(NamedTuple):
-    """An entry of a scope, a party, a Land, or a list as `LAND/PARTY`; `missing` are the votes missing for one more seat, and `lot` says whether a lot
-    gave it the last seat, where one did or did not."""
+    """An entry of a scope, a party, a Land, or a list as `LAND/PARTY`; `missing` are the votes missing for one more seat, `lot` says whether a lot
+    gave it the last seat, where one did or did not, and `place` is its place in the lot of the returns, from 1."""
 
     stage: str
     scope: str
@@ -86,6 +86,7 @@ class Entry(NamedTuple):
     minimum: Optional[int]
     missing: Optional[int]
     lot: Optional[bool]
+    place: Optional[int]
 
 
 class Covering(NamedTuple):

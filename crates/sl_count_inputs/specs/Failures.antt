@@ -20,18 +20,20 @@ pub record Counts : Type 0 where
   pub returns : ℕ
   pub code : ℕ
   pub names : ℕ
+  pub before : ℕ
   pub out : ℕ
 
--- those of a call of the desk, which reads no names
+-- those of a call of the desk, which reads no names and no earlier table
 abbrev pub counts : (book returns code out : ℕ) → Counts
-counts book returns code out = record { book = book; returns = returns; code = code; names = 0; out = out }
+counts book returns code out = record { book = book; returns = returns; code = code; names = 0; before = 0; out = out }
 
 -- those of a call that reads one input and writes nothing
 abbrev pub input_counts : Input → ℕ → Counts
 input_counts input.Book n = counts n 0 0 0
 input_counts input.Returns n = counts 0 n 0 0
 input_counts input.Code n = counts 0 0 n 0
-input_counts input.Names n = record { book = 0; returns = 0; code = 0; names = n; out = 0 }
+input_counts input.Names n = record { book = 0; returns = 0; code = 0; names = n; before = 0; out = 0 }
+input_counts input.Before n = record { book = 0; returns = 0; code = 0; names = 0; before = n; out = 0 }
 
 -- after an error: Read is one more failure of that input alone, Write one of the writer alone, and out of memory none
 abbrev pub counts_at : Counts → DeskError → Counts
@@ -39,6 +41,7 @@ counts_at before (fault.Read input.Book) = record before { book = one_more befor
 counts_at before (fault.Read input.Returns) = record before { returns = one_more before.returns }
 counts_at before (fault.Read input.Code) = record before { code = one_more before.code }
 counts_at before (fault.Read input.Names) = record before { names = one_more before.names }
+counts_at before (fault.Read input.Before) = record before { before = one_more before.before }
 counts_at before fault.Write = record before { out = one_more before.out }
 counts_at before fault.NoMemory = before
 

@@ -35,6 +35,8 @@ pub enum Input {
     Code,
     /// Full names of parties and Länder, for a report.
     Names,
+    /// The seat table of an earlier count, for a report.
+    Before,
 }
 
 impl Input {
@@ -45,6 +47,7 @@ impl Input {
             Input::Returns => "returns",
             Input::Code => "code",
             Input::Names => "names",
+            Input::Before => "before",
         }
     }
 }

@@ -12,7 +12,7 @@ use Rattle.sl_count_inputs.specs.Reading.{ForKnown, ReadsBehind, TakesAtMost}
 use Rattle.sl_count_inputs.specs.declared.limits.TheConstants.{MAX_RETURNS_BYTES}
 use Rattle.sl_count_inputs.specs.declared.status.DeskError.TheVariants as fault
 use Rattle.sl_count_inputs.specs.declared.status.DeskError.{DeskError}
-use Rattle.sl_count_inputs.specs.declared.status.Input.TheVariants.{Book, Code, Names, Returns}
+use Rattle.sl_count_inputs.specs.declared.status.Input.TheVariants.{Before, Book, Code, Names, Returns}
 use Rattle.sl_count_inputs.specs.declared.status.Input.{Input}
 use Rattle.sl_count_inputs.specs.declared.verdict.Verdict.TheVariants.{Good}
 use Rattle.sl_stages.specs.book.Trees.{BookTree}
@@ -38,6 +38,10 @@ not_first Code n n' (Err x) other h e =
 not_first Names n n' (Err x) other h e =
     let same : x ≡ fault.Read Names = cc in
     let raised : 0 ≡ min (0 + 1) (2 ^ 64 - 1) = ap (λ (c : Counts). c.names) (rw same at h) in
+    absurd (omega arith)
+not_first Before n n' (Err x) other h e =
+    let same : x ≡ fault.Read Before = cc in
+    let raised : 0 ≡ min (0 + 1) (2 ^ 64 - 1) = ap (λ (c : Counts). c.before) (rw same at h) in
     absurd (omega arith)
 
 module _ {R A X : Type 0} (remaining : R → Option (List ℕ)) (old new : R) (n n' : ℕ) (r : Result X DeskError) where

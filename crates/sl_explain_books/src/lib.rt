@@ -1,14 +1,13 @@
 //! Explains why a rulebook is refused, and names of statutes and stages that do not exist: what is wrong, where, and what to do, in English or in
 //! German. Takes what was read of the rulebook, and reads nothing again.
 //!
-//! Stands on `sl_explain_texts`, `sl_laws`, `sl_check` and `sl_parse`; used by the room explain. Proved: the code of each explanation is that of the
+//! Stands on `sl_book_copies`, `sl_explain_texts`, `sl_laws`, `sl_check` and `sl_parse`; used by the room explain. Proved: the code of each explanation is that of the
 //! fault.
 //!
 //! Where an error is `NoMemory` alone, memory ran out, and nothing else is wrong.
 #![tactic(auto)]
 
 mod clause;
-mod copies;
 mod further;
 mod grammar;
 mod left_out;

@@ -26,6 +26,11 @@ const NO_NAMES: Message = Message {
     german: "die Namen `$` lassen sich nicht öffnen: $",
 };
 
+const NO_BEFORE: Message = Message {
+    english: "the earlier table `$` cannot be opened: $",
+    german: "die frühere Sitztabelle `$` lässt sich nicht öffnen: $",
+};
+
 const NO_OUTPUT: Message = Message {
     english: "the file `$` cannot be written: $",
     german: "die Datei `$` lässt sich nicht schreiben: $",
@@ -70,6 +75,11 @@ const UNREAD_CODE: Message = Message {
 const UNREAD_NAMES: Message = Message {
     english: "the file of the names was opened, and cannot be read",
     german: "die Datei der Namen ließ sich öffnen, aber nicht lesen",
+};
+
+const UNREAD_BEFORE: Message = Message {
+    english: "the file of the earlier table was opened, and cannot be read",
+    german: "die Datei der früheren Sitztabelle ließ sich öffnen, aber nicht lesen",
 };
 
 const UNWRITTEN: Message = Message {
@@ -151,6 +161,7 @@ fn unopened(input: Input) -> Message {
         Input::Returns => NO_RETURNS,
         Input::Code => NO_CODE,
         Input::Names => NO_NAMES,
+        Input::Before => NO_BEFORE,
     }
 }
 
@@ -228,6 +239,7 @@ fn unread(input: Input) -> Message {
         Input::Returns => UNREAD_RETURNS,
         Input::Code => UNREAD_CODE,
         Input::Names => UNREAD_NAMES,
+        Input::Before => UNREAD_BEFORE,
     }
 }
 

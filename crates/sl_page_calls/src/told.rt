@@ -79,7 +79,7 @@ fn file_of<'a>(input: Input, counting: &'a [u8], returns: &'a [u8]) -> (&'static
     match input {
         Input::Returns => (b"returns", returns),
         Input::Code => (b"code", counting),
-        Input::Book | Input::Names => (b"book", counting),
+        Input::Book | Input::Names | Input::Before => (b"book", counting),
     }
 }
 

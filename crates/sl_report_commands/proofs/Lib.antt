@@ -1,2 +1,4 @@
 pub mod Summed
 pub mod DigestSteps
+pub mod SameLimits
+pub mod OneSet

@@ -33,6 +33,7 @@ text_of input.Book book returns = book
 text_of input.Returns book returns = returns
 text_of input.Code book returns = []
 text_of input.Names book returns = []
+text_of input.Before book returns = []
 
 -- ---- an input: its digest, and none where it has no bytes
 

@@ -2,6 +2,7 @@
 pub mod Statuses
 pub mod Reports
 pub mod Compared
+pub mod Methods
 pub mod Summaries
 pub mod Digests
 pub mod inner

@@ -39,7 +39,7 @@ fn line_of(alloc: Global, returns: &Returns, outcome: &Outcome) -> Result<Vec<u8
 /// The answer that shows what a good book comes to on good returns, by a count that kept its records.
 pub fn answer_count(
     alloc: Global,
-    show: Show,
+    show: Show<'_>,
     book: &CheckedBook,
     returns: &Returns,
     outcome: &Outcome,
@@ -49,7 +49,7 @@ pub fn answer_count(
     requires meant { IsMeantEnd Kept (book_of book.now.book) returns.now outcome.now.end }
     requires fits { FitsOutcome (book_of book.now.book) returns.now outcome.now }
     ensures status { IfOk result (λ a. a.status ≡ end_status outcome.now.end) }
-    ensures shows { IfOk result (λ a. Shows book.now.book returns.now show outcome.now.end (map table_of a.sheets.items)) }
+    ensures shows { IfOk result (λ a. Shows book.now.book returns.now show.entry outcome.now.end (map table_of a.sheets.items)) }
 {
     let line = line_of(alloc, returns, outcome)?;
     count_answer(
@@ -85,7 +85,7 @@ pub(crate) fn refusal_line(alloc: Global, judged: &Judged<'_>) -> Result<Vec<u8>
 // The answer that shows a count with the full names of a text, or that which refuses these names.
 fn named_answer(
     alloc: Global,
-    show: Show,
+    show: Show<'_>,
     counting: &Counting,
     names: &Result<FullNames, Answer>,
     language: Language,
@@ -93,7 +93,7 @@ fn named_answer(
     requires meant { IsMeantEnd Kept (book_of counting.now.book.book) counting.now.returns counting.now.outcome.end }
     requires fits { FitsOutcome (book_of counting.now.book.book) counting.now.returns counting.now.outcome }
     ensures shown { IfOk result (λ r. IfOk r (λ a. a.status ≡ end_status counting.now.outcome.end)) }
-    ensures tables { IfOk result (λ r. IfOk r (λ a. Shows counting.now.book.book counting.now.returns show counting.now.outcome.end (map table_of a.sheets.items))) }
+    ensures tables { IfOk result (λ r. IfOk r (λ a. Shows counting.now.book.book counting.now.returns show.entry counting.now.outcome.end (map table_of a.sheets.items))) }
     ensures refused { IfOk result (λ r. IfErr r (λ a. (is_ok names.now ≡ false) × (a.status ≡ status.Refused) × (map table_of a.sheets.items ≡ []))) }
 {
     match names {
@@ -114,14 +114,14 @@ fn named_answer(
 /// these names, where they would be shown.
 pub fn answer_judged(
     alloc: Global,
-    show: Show,
+    show: Show<'_>,
     judged: &Judged<'_>,
     names: &Result<FullNames, Answer>,
     language: Language,
 ) -> Result<Result<Answer, Answer>, NoMemory>
     requires fits { FitsJudged Kept judged.now }
     ensures shown { IfOk result (λ r. IfOk r (λ a. a.status ≡ judged_status judged.now)) }
-    ensures tables { IfOk result (λ r. IfOk r (λ a. ShowsJudged show judged.now (map table_of a.sheets.items))) }
+    ensures tables { IfOk result (λ r. IfOk r (λ a. ShowsJudged show.entry judged.now (map table_of a.sheets.items))) }
     ensures refused { IfOk result (λ r. IfErr r (λ a. (is_ok names.now ≡ false) × (a.status ≡ status.Refused) × (map table_of a.sheets.items ≡ []))) }
 {
     match judged {
@@ -135,13 +135,13 @@ pub fn answer_judged(
 // What a command on one book answers, and its text.
 fn one_book(
     alloc: Global,
-    show: Show,
+    show: Show<'_>,
     book: BookText<'_>,
     returns: &[u8],
     names: Option<&[u8]>,
     style: Style,
 ) -> Result<Written, NoMemory>
-    ensures { IfOk result (λ w. IsReport show (is_some names.entry) (input_of book.entry) returns.now w.answer.status (map table_of w.answer.sheets.items)) }
+    ensures { IfOk result (λ w. IsReport show.entry (is_some names.entry) (input_of book.entry) returns.now w.answer.status (map table_of w.answer.sheets.items)) }
 {
     let names = names_of(alloc, names)?;
     let judged = judge(Records::Kept, alloc, book, None, returns)?;

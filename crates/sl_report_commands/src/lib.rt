@@ -10,15 +10,20 @@
 mod comparison;
 mod counts;
 mod further;
+mod method;
 mod sums;
 mod written;
 
 pub use comparison::{Compared, Named, compare, compare_judged, compare_statutes};
 pub use counts::{answer_count, answer_judged, report, stages};
 pub use further::add_refused;
+pub use method::book_by;
 pub use sl_explain_texts::Language;
 pub use sl_report_forms::{DigestedInput, Told};
-pub use sl_report_tables::{Answer, FullNames, MAX_NAMES_BYTES, Shape, Show, names_in, names_of};
+pub use sl_report_tables::{
+    Answer, EarlierParty, FullNames, MAX_BEFORE_BYTES, MAX_NAMES_BYTES, Shape, Show, earlier_in,
+    method_of, method_word, names_in, names_of,
+};
 pub use sums::{BookVerdict, ReturnsVerdict, totals, totals_answer, totals_judged};
 pub use written::{
     Style, Texts, Written, bytes_of, digested, digested_book, digested_returns, digested_unjudged,

@@ -67,7 +67,7 @@ impl<'a> Texts<'a> {
         match input {
             Input::Book => self.book,
             Input::Returns => self.returns,
-            Input::Code | Input::Names => b"",
+            Input::Code | Input::Names | Input::Before => b"",
         }
     }
 }
@@ -335,7 +335,7 @@ fn reason_of<'a>(
 /// The text of an answer on what a rulebook and returns of these texts come to, or of one that refuses the names.
 pub fn judged_text(
     alloc: Global,
-    show: Show,
+    show: Show<'_>,
     answer: &Result<Answer, Answer>,
     judged: &Judged<'_>,
     texts: Texts<'_>,

@@ -14,3 +14,4 @@ pub mod ContestSteps
 pub mod PressSteps
 pub mod LackingSteps
 pub mod Borders
+pub mod DrawnLots

@@ -10,12 +10,11 @@ use Rattle.sl_stages.specs.declared.fault.Scope.{Scope}
 use Rattle.sl_stages.specs.declared.fault.Scope.TheVariants as scope
 use Rattle.sl_stages.specs.declared.table.SeatStep.{SeatStep}
 use Rattle.sl_stages.specs.meaning.Scopes.{same_item}
-use Rattle.sl_stages.specs.returns.Election.{Election, has_list, lands_of, parties_of}
+use Rattle.sl_stages.specs.returns.Election.{Election, has_list}
 use Rattle.sl_stages.specs.returns.Facts.{lands, parties}
 use Rattle.sl_report_results.specs.Places.{is_seat_of, items_in, seats_of}
 use Rattle.sl_report_results.specs.Scopes.{entry_of, is_shown, shown_entries}
 use Rattle.sl_report_results.specs.declared.columns.Distribution.{Distribution}
-use Rattle.sl_report_results.specs.declared.scopes.Entry.{Entry}
 use Rattle.sl_report_results.specs.inner.Within.{is_step_in, is_within}
 
 -- a filter that keeps what is counted leaves the count
@@ -57,10 +56,10 @@ in_land land party (item.Party p) h = absurd (false≢true h)
 in_land land party (item.Land l) h = absurd (false≢true h)
 in_land land party (item.Win w) h = absurd (false≢true h)
 
-module _ (e : Election) (stage : ℕ) (d : Distribution) (steps : List SeatStep) where
-  own_entry : (s : Scope) (i : Item) → ((x : Item) → same_item x i ≡ true → is_within s x ≡ true) →
-      entry_of e stage d (filter (is_step_in stage s) steps) i ≡ entry_of e stage d steps i
-  own_entry s i within =
+module _ (e : Election) (stage : ℕ) (d : Distribution) (steps : List SeatStep) (lot : List ℕ) where
+  own_entry : (s : Scope) (items : List Item) (i : Item) → ((x : Item) → same_item x i ≡ true → is_within s x ≡ true) →
+      entry_of e stage d (filter (is_step_in stage s) steps) lot items i ≡ entry_of e stage d steps lot items i
+  own_entry s items i within =
       let kept : (step : SeatStep) → is_seat_of stage i step ≡ true → is_step_in stage s step ≡ true =
       λ step h.
       let both = both_true (nat_eq step.stage stage) (same_item step.entry i) h in
@@ -68,18 +67,22 @@ module _ (e : Election) (stage : ℕ) (d : Distribution) (steps : List SeatStep)
       let inside : is_within s step.entry ≡ true = within step.entry both.1 in
       rw (here, inside) refl in
       let same : seats_of stage (filter (is_step_in stage s) steps) i ≡ seats_of stage steps i = count_kept (is_seat_of stage i) (is_step_in stage s) kept steps in
-      ap (λ n. record (entry_of e stage d steps i) { seats = n }) same
+      ap (λ n. record (entry_of e stage d steps lot items i) { seats = n }) same
 
   pub own_steps_suffice : (votes : Shape) (s : Scope) →
-      shown_entries e stage d (filter (is_step_in stage s) steps) (items_in e votes s) ≡ shown_entries e stage d steps (items_in e votes s)
+      shown_entries e stage d (filter (is_step_in stage s) steps) lot (items_in e votes s) ≡ shown_entries e stage d steps lot (items_in e votes s)
   own_steps_suffice votes scope.All =
-      ap (filter is_shown) (all_same (entry_of e stage d (filter (is_step_in stage scope.All) steps)) (entry_of e stage d steps) (λ i. own_entry scope.All i (λ x h. refl)) (items_in e votes scope.All))
+      let items = items_in e votes scope.All in
+      ap (filter is_shown)
+      (all_same (entry_of e stage d (filter (is_step_in stage scope.All) steps) lot items) (entry_of e stage d steps lot items) (λ i. own_entry scope.All items i (λ x h. refl)) items)
   own_steps_suffice votes (scope.Party party) =
+      let items = items_in e votes (scope.Party party) in
       ap (filter is_shown)
-      (mapped_same (entry_of e stage d (filter (is_step_in stage (scope.Party party)) steps)) (entry_of e stage d steps) (λ land. item.List land party)
-      (λ land. own_entry (scope.Party party) (item.List land party) (in_party land party)) (filter (λ land. has_list e land party) (lands e)))
+      (mapped_same (entry_of e stage d (filter (is_step_in stage (scope.Party party)) steps) lot items) (entry_of e stage d steps lot items) (λ land. item.List land party)
+      (λ land. own_entry (scope.Party party) items (item.List land party) (in_party land party)) (filter (λ land. has_list e land party) (lands e)))
   own_steps_suffice votes (scope.Land land) =
+      let items = items_in e votes (scope.Land land) in
       ap (filter is_shown)
-      (mapped_same (entry_of e stage d (filter (is_step_in stage (scope.Land land)) steps)) (entry_of e stage d steps) (λ party. item.List land party)
-      (λ party. own_entry (scope.Land land) (item.List land party) (in_land land party)) (filter (has_list e land) (parties e)))
+      (mapped_same (entry_of e stage d (filter (is_step_in stage (scope.Land land)) steps) lot items) (entry_of e stage d steps lot items) (λ party. item.List land party)
+      (λ party. own_entry (scope.Land land) items (item.List land party) (in_land land party)) (filter (has_list e land) (parties e)))
   own_steps_suffice votes (scope.List land party) = refl

@@ -8,7 +8,7 @@ use Rattle.std.proofs.lemmas.List.FromFn.{get_or-map-range_with_len, length-map-
 use Rattle.std.proofs.lemmas.Option.{slice_get-get_or}
 use Rattle.sl_report_results.proofs.Steps.{filter_next}
 use Rattle.sl_report_results.specs.Places.{IsScope, items_in, scope_at, scope_count}
-use Rattle.sl_report_results.specs.Scopes.{Adds, IsScopeOf, has_entry, shown_entries}
+use Rattle.sl_report_results.specs.Scopes.{Adds, IsScopeOf, has_entry, scope_entries}
 use Rattle.sl_report_results.specs.declared.columns.Distribution.{Distribution}
 use Rattle.sl_report_results.specs.declared.scopes.Scoped.{Scoped}
 use Rattle.sl_stages.specs.declared.fault.Scope.TheVariants as scope
@@ -63,29 +63,29 @@ module _ (e : Election) where
   entries_are shape.Land votes n less = refl
   entries_are shape.List votes n less = absurd (omega (arith, less))
 
-  module _ (stage : ℕ) (d : Distribution) (steps : List SeatStep) where
+  module _ (name : List ℕ) (stage : ℕ) (d : Distribution) (steps : List SeatStep) where
     abbrev is_there : Group → Bool
-    is_there g = has_entry e stage d steps g.entries
+    is_there g = has_entry e name stage d steps g.entries
 
-    added : (g : Group) (before after : List Scoped) (found : List Group) → AllZip (IsScopeOf e stage d steps) found before →
-        Adds stage d g.scope (shown_entries e stage d steps g.entries) before after → AllZip (IsScopeOf e stage d steps) (found ++ filter is_there (g ∷ [])) after
+    added : (g : Group) (before after : List Scoped) (found : List Group) → AllZip (IsScopeOf e name stage d steps) found before →
+        Adds stage d g.scope (scope_entries e name stage d steps g.entries) before after → AllZip (IsScopeOf e name stage d steps) (found ++ filter is_there (g ∷ [])) after
     added g before after found all (inl h) =
-        let none : is_there g ≡ false = le-ltb 0 (length (shown_entries e stage d steps g.entries)) (omega (arith, h.0)) in
-        subst (λ b. AllZip (IsScopeOf e stage d steps) (found ++ (if b then g ∷ [] else [])) after) (sym none)
-        (subst (λ gs. AllZip (IsScopeOf e stage d steps) gs after) (sym (append-nil found)) (subst (AllZip (IsScopeOf e stage d steps) found) (sym h.1) all))
+        let none : is_there g ≡ false = le-ltb 0 (length (scope_entries e name stage d steps g.entries)) (omega (arith, h.0)) in
+        subst (λ b. AllZip (IsScopeOf e name stage d steps) (found ++ (if b then g ∷ [] else [])) after) (sym none)
+        (subst (λ gs. AllZip (IsScopeOf e name stage d steps) gs after) (sym (append-nil found)) (subst (AllZip (IsScopeOf e name stage d steps) found) (sym h.1) all))
     added g before after found all (inr h) =
-        let some : is_there g ≡ true = lt-ltb 0 (length (shown_entries e stage d steps g.entries)) h.1 in
-        subst (λ b. AllZip (IsScopeOf e stage d steps) (found ++ (if b then g ∷ [] else [])) after) (sym some)
-        (subst (AllZip (IsScopeOf e stage d steps) (found ++ g ∷ [])) (sym h.2) (all_and_one (IsScopeOf e stage d steps) found before g h.0 h.3 all))
+        let some : is_there g ≡ true = lt-ltb 0 (length (scope_entries e name stage d steps g.entries)) h.1 in
+        subst (λ b. AllZip (IsScopeOf e name stage d steps) (found ++ (if b then g ∷ [] else [])) after) (sym some)
+        (subst (AllZip (IsScopeOf e name stage d steps) (found ++ g ∷ [])) (sym h.2) (all_and_one (IsScopeOf e name stage d steps) found before g h.0 h.3 all))
 
     pub scope_more : (over votes : Shape) (n : ℕ) (before after : List Scoped) → n < scope_count e over →
-        AllZip (IsScopeOf e stage d steps) (filter is_there (take n (scopes e over votes))) before →
-        Adds stage d (scope_at over n) (shown_entries e stage d steps (items_in e votes (scope_at over n))) before after →
-        AllZip (IsScopeOf e stage d steps) (filter is_there (take (n + 1) (scopes e over votes))) after
+        AllZip (IsScopeOf e name stage d steps) (filter is_there (take n (scopes e over votes))) before →
+        Adds stage d (scope_at over n) (scope_entries e name stage d steps (items_in e votes (scope_at over n))) before after →
+        AllZip (IsScopeOf e name stage d steps) (filter is_there (take (n + 1) (scopes e over votes))) after
     scope_more over votes n before after less all adds =
         let g = group_at over votes n in
-        let given : Adds stage d g.scope (shown_entries e stage d steps g.entries) before after =
-        subst (λ s. Adds stage d s (shown_entries e stage d steps g.entries) before after) (sym (scope_is over votes n less))
-        (subst (λ items. Adds stage d (scope_at over n) (shown_entries e stage d steps items) before after) (sym (entries_are over votes n less)) adds) in
-        subst (λ gs. AllZip (IsScopeOf e stage d steps) gs after) (sym (filter_next is_there (scopes e over votes) n g (group_there over votes n less)))
+        let given : Adds stage d g.scope (scope_entries e name stage d steps g.entries) before after =
+        subst (λ s. Adds stage d s (scope_entries e name stage d steps g.entries) before after) (sym (scope_is over votes n less))
+        (subst (λ items. Adds stage d (scope_at over n) (scope_entries e name stage d steps items) before after) (sym (entries_are over votes n less)) adds) in
+        subst (λ gs. AllZip (IsScopeOf e name stage d steps) gs after) (sym (filter_next is_there (scopes e over votes) n g (group_there over votes n less)))
         (added g before after (filter is_there (take n (scopes e over votes))) all given)

@@ -68,7 +68,7 @@ mapped_more f n xs ys x so_far pushed here =
     pushed ∙ ap (λ zs. zs ++ x ∷ []) so_far ∙ ap (λ y. map f (range_with_len 0 n) ++ y ∷ []) here ∙ sym (map-range_with_len_more f 0 n n (omega arith))
 
 -- a condition is met exactly where there is a first one
-any_is : {X : Type 0} (p : X → Bool) (xs : List X) → nat_lt (position_or_len p xs) (length xs) ≡ list_any p xs
+pub any_is : {X : Type 0} (p : X → Bool) (xs : List X) → nat_lt (position_or_len p xs) (length xs) ≡ list_any p xs
 any_is p [] = refl
 any_is p (x ∷ xs) = go (p x) (any_is p xs) where
   go : (b : Bool) → nat_lt (position_or_len p xs) (length xs) ≡ list_any p xs → nat_lt (cond (not b) (1 + position_or_len p xs) 0) (suc (length xs)) ≡ (b || list_any p xs)

@@ -7,6 +7,7 @@ pub mod Seats
 pub mod Cells
 pub mod Values
 pub mod Ranks
+pub mod Earlier
 pub mod Press
 pub mod Places
 pub mod Lots

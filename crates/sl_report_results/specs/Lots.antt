@@ -1,10 +1,12 @@
--- What is told of a lot in an allocation without minima (docs/report.md). A scope is given by the weights v and the seats s of its entries, in
--- entry order.
-use Rattle.std.specs.Prelude.{◌≡◌, ◌≢◌, ◌↔◌, ℕ, ◌<◌, Bool, true, false, IsTrue, List, Option, Some, None, Contains, MatchOption, length, slice_index, slice_index_or, unwrap_or}
+-- What is told of a lot in an allocation without minima, and of the lot that the returns give for a stage (docs/report.md). A scope is given by the
+-- weights v and the seats s of its entries, in entry order.
+use Rattle.std.specs.Prelude.{◌≡◌, ◌≢◌, ◌↔◌, ℕ, ◌<◌, Bool, true, false, IsTrue, List, Option, Some, None, Contains, MatchOption, length, nat_eq, option_and_then, option_map, position, slice_index, slice_index_or, unwrap_or, ◌+◌}
 use Rattle.sl_ratio.specs.Bounds.{HasWeight, IsLast, IsNext, last_quotient, next_quotient}
 use Rattle.sl_ratio.specs.Quotient.{AtMost, Quotient, SameQuotient}
 use Rattle.sl_ratio.specs.declared.method.Divisor.TheVariants.{Hill}
 use Rattle.sl_ratio.specs.declared.method.Divisor.{Divisor}
+use Rattle.sl_stages.specs.declared.fault.Item.{Item}
+use Rattle.sl_stages.specs.meaning.Scopes.{same_item}
 
 -- a lot decided: the last seat was won by a quotient that a next claim equals
 pub record IsDrawn (method : Divisor) (v s : List ℕ) : Type 0 where
@@ -46,3 +48,7 @@ pub record AreLots (given : Bool) (method : Divisor) (v s last next : List ℕ) 
   pub on_border : IsBorder method v s border
   pub long : length marks ≡ length v
   pub marked : (k : ℕ) → k < length v → IsMark (unwrap_or drawn false) last next k (slice_index_or marks k None)
+
+-- the place of an item in the lot of a stage among the items of a scope, from 1, where the lot names it. The lot is of their numbers
+abbrev pub lot_place : (lot : List ℕ) → (items : List Item) → Item → Option ℕ
+lot_place lot items i = option_and_then (λ n. option_map (λ k. k + 1) (position (nat_eq n) lot)) (position (same_item i) items)

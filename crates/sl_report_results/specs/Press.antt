@@ -2,9 +2,11 @@
 use Rattle.std.specs.List.Sorted.{IsPermutation, IsSortedByKey, IsStableByKey}
 use Rattle.std.specs.List.{position}
 use Rattle.std.specs.Ordering.{nat_cmp}
-use Rattle.std.specs.Prelude.{ℕ, ◌-◌, ◌^◌, ◌||◌, Bool, List, filter, is_none, map, nat_lt}
+use Rattle.std.specs.Prelude.{ℕ, ◌-◌, ◌^◌, ◌||◌, Bool, List, [], Option, filter, is_none, map, nat_lt, option_map, slice_index_or, unwrap_or}
+use Rattle.sl_report_results.specs.Earlier.{seats_before}
 use Rattle.sl_report_results.specs.Parts.{part_of}
 use Rattle.sl_report_results.specs.Seats.{party_seats}
+use Rattle.sl_report_results.specs.declared.earlier.EarlierParty.{EarlierParty}
 use Rattle.sl_report_results.specs.declared.press.Pressed.{Pressed}
 use Rattle.sl_report_results.specs.declared.press.Standing.{Standing}
 use Rattle.sl_stages.specs.declared.book.Cond.{Cond}
@@ -24,18 +26,23 @@ pub record AreByGreatest {A : Type 0} (number : A → ℕ) (xs ys : List A) : Ty
 
 -- ---- who is shown
 
--- a party with its seats, its votes and the constituencies that it won
-abbrev pub pressed_of : List Cond → SeatTable → Election → ℕ → Pressed
-pressed_of conditions t e party = record { party = party; seats = party_seats t e party; part = part_of conditions e party }
+-- a party with its seats, its votes, the constituencies that it won, and its seats in an earlier table, where one is given
+abbrev pub pressed_of : List Cond → SeatTable → Election → Option (List EarlierParty) → ℕ → Pressed
+pressed_of conditions t e earlier party = record {
+  party = party;
+  seats = party_seats t e party;
+  part = part_of conditions e party;
+  before = option_map (seats_before (slice_index_or e.party_names party [])) earlier;
+}
 
--- it has a seat, or won a constituency
+-- it has a seat, or won a constituency, or had a seat
 abbrev pub is_pressed : Pressed → Bool
-is_pressed p = nat_lt 0 p.seats.seats || nat_lt 0 p.part.winners
+is_pressed p = nat_lt 0 p.seats.seats || (nat_lt 0 p.part.winners || nat_lt 0 (unwrap_or p.before 0))
 
--- those with a seat or a constituency, by their seats
-abbrev pub ArePressed : List Cond → SeatTable → Election → List Pressed → Type 0
-ArePressed conditions t e found =
-    AreByGreatest (λ p. p.seats.seats) (filter is_pressed (map (pressed_of conditions t e) (parties e))) found
+-- those with a seat or a constituency, or with a seat in an earlier table, by their seats
+abbrev pub ArePressed : List Cond → SeatTable → Election → Option (List EarlierParty) → List Pressed → Type 0
+ArePressed conditions t e earlier found =
+    AreByGreatest (λ p. p.seats.seats) (filter is_pressed (map (pressed_of conditions t e earlier) (parties e))) found
 
 -- ---- who is left out
 

@@ -10,7 +10,7 @@ use Rattle.sl_ratio.specs.declared.method.Divisor.{Divisor}
 use Rattle.sl_ratio.specs.declared.method.Method.TheVariants as by
 use Rattle.sl_ratio.specs.declared.method.Method.{Method}
 use Rattle.sl_ratio.specs.Quotient.{Quotient}
-use Rattle.sl_report_results.specs.Lots.{AreLots}
+use Rattle.sl_report_results.specs.Lots.{AreLots, lot_place}
 use Rattle.sl_report_results.specs.Places.{seats_of}
 use Rattle.sl_report_results.specs.Sums.{capped}
 use Rattle.sl_report_results.specs.declared.columns.Distribution.{Distribution}
@@ -20,15 +20,17 @@ use Rattle.sl_report_results.specs.declared.scopes.Scoped.{Scoped}
 use Rattle.sl_stages.specs.declared.fault.Item.{Item}
 use Rattle.sl_stages.specs.declared.fault.Scope.{Scope}
 use Rattle.sl_stages.specs.declared.table.SeatStep.{SeatStep}
+use Rattle.sl_stages.specs.meaning.Lots.{stage_lot}
 use Rattle.sl_stages.specs.meaning.Scopes.{Group, place, scopes}
 use Rattle.sl_stages.specs.methods.Ties.{Lists}
 use Rattle.sl_stages.specs.returns.Election.{Election}
 
 -- ---- entries
 
--- an entry by what is distributed and by the steps that won the seats of its stage, without a quotient and votes missing
-abbrev pub entry_of : Election → ℕ → Distribution → List SeatStep → Item → Entry
-entry_of e stage d steps i = record {
+-- an entry by what is distributed, by the steps that won the seats of its stage, and by a lot among the items of its scope; without a quotient, votes
+-- missing and a mark
+abbrev pub entry_of : Election → ℕ → Distribution → List SeatStep → (lot : List ℕ) → (items : List Item) → Item → Entry
+entry_of e stage d steps lot items i = record {
   item = i;
   weight = slice_index d.votes.cells.items (place e i);
   seats = seats_of stage steps i;
@@ -36,14 +38,19 @@ entry_of e stage d steps i = record {
   quotient = None;
   missing = None;
   lot = None;
+  place = lot_place lot items i;
 }
 
 -- an entry has a weight, seats or a minimum
 abbrev pub is_shown : Entry → Bool
 is_shown x = nat_lt 0 x.weight || (nat_lt 0 x.seats || nat_lt 0 x.minimum)
 
-abbrev pub shown_entries : Election → ℕ → Distribution → List SeatStep → List Item → List Entry
-shown_entries e stage d steps items = filter is_shown (map (entry_of e stage d steps) items)
+abbrev pub shown_entries : Election → ℕ → Distribution → List SeatStep → (lot : List ℕ) → List Item → List Entry
+shown_entries e stage d steps lot items = filter is_shown (map (entry_of e stage d steps lot items) items)
+
+-- those of a stage of that name, by the lot that the returns give for it among the items of the scope
+abbrev pub scope_entries : Election → List ℕ → ℕ → Distribution → List SeatStep → List Item → List Entry
+scope_entries e name stage d steps items = shown_entries e stage d steps (stage_lot e name d.votes.shape items) items
 
 -- ---- what follows from a divisor
 
@@ -83,6 +90,7 @@ with_margins divisor border x missing lot = record {
   quotient = margin_quotient x.weight divisor border;
   missing = missing;
   lot = lot;
+  place = x.place;
 }
 
 -- the votes that each entry lacks, and nothing where there are minima
@@ -130,6 +138,7 @@ quota_entry seats weight x = record {
   quotient = Some (record { num = x.weight * seats; den = weight });
   missing = x.missing;
   lot = x.lot;
+  place = x.place;
 }
 
 pub record HasQuota (xs : List Entry) (s : Scoped) : Type 0 where
@@ -170,13 +179,13 @@ abbrev pub Adds : ℕ → Distribution → Scope → List Entry → List Scoped 
 Adds number d in_scope xs before after =
     ((length xs ≡ 0) × (after ≡ before)) ⊎ ((s : Scoped) × (0 < length xs) × (after ≡ before ++ s ∷ []) × IsScoped number d in_scope xs s)
 
-module _ (e : Election) (stage : ℕ) (d : Distribution) (steps : List SeatStep) where
+module _ (e : Election) (name : List ℕ) (stage : ℕ) (d : Distribution) (steps : List SeatStep) where
   -- a scope with an entry
   abbrev pub has_entry : List Item → Bool
-  has_entry items = nat_lt 0 (length (shown_entries e stage d steps items))
+  has_entry items = nat_lt 0 (length (scope_entries e name stage d steps items))
 
   abbrev pub IsScopeOf : Group → Scoped → Type 0
-  IsScopeOf g s = IsScoped stage d g.scope (shown_entries e stage d steps g.entries) s
+  IsScopeOf g s = IsScoped stage d g.scope (scope_entries e name stage d steps g.entries) s
 
   -- the scopes in which a stage distributes its seats, in order, those without an entry left out
   abbrev pub AreScopes : List Scoped → Type 0

@@ -1,3 +1,4 @@
 -- What only bodies and proofs cite.
 pub mod Within
 pub mod Common
+pub mod Drawn

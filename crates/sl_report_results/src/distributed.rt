@@ -6,20 +6,21 @@ ghost use Rattle.sl_stages.specs.meaning.Counts.{HoldsStages};
 ghost use Rattle.sl_ratio.specs.declared.method.Method.TheVariants as by;
 ghost use Rattle.sl_report_results.specs.Lots.{AreLots};
 ghost use Rattle.sl_report_results.specs.Places.{IsScope, items_in};
-ghost use Rattle.sl_report_results.specs.Scopes.{Adds, AreMargins, AreScopes, Follows, HasMargins, HasNone, HasQuota, IsAllocated, IsHead, IsScoped, held_of, shown_entries, weights_of};
-ghost use Rattle.sl_report_results.specs.StageScopes.{AreStageScopes};
+ghost use Rattle.sl_report_results.specs.Scopes.{Adds, AreMargins, AreScopes, Follows, HasMargins, HasNone, HasQuota, IsAllocated, IsHead, IsScoped, held_of, scope_entries, weights_of};
+ghost use Rattle.sl_report_results.specs.StageScopes.{AreStageScopes, name_of};
 ghost use Rattle.sl_stages.specs.book.Books.{book_of};
 ghost use Rattle.sl_stages.specs.book.Trees.{tree_of};
 ghost use Rattle.sl_stages.specs.declared.book.Stage.{Stage};
 
 use crate::columns::{Distribution, distribution_of};
+use crate::drawing::stage_lot;
 use crate::facts::Setting;
 use crate::fraction::Fraction;
 use crate::margins::{Margins, margins_of};
 use crate::places::{items_in, scope_at, scope_count, steps_in};
 use crate::scopes::{Entry, Scoped, seats_in, shown_entries, weight_in, with_margins, with_quota};
 use sl_ratio::{Divisor, Method, NoMemory};
-use sl_stages::{Counted, Returns, Scope, SeatStep};
+use sl_stages::{Counted, Scope, SeatStep, Stage};
 use std::alloc::Global;
 
 // A scope without a divisor and a quota.
@@ -209,46 +210,77 @@ fn push_some(
     Ok(())
 }
 
-// Adds a scope, if it has an entry.
-fn push_scope(
+// The name of the stage of that number.
+fn name_of(stages: &[Stage], stage: usize) -> &[u8]
+    requires { stage < length stages.now }
+    ensures { result.now ≡ name_of stages.now stage }
+{
+    stages[stage].name.as_bytes()
+}
+
+// The entries of a scope that have a weight, seats or a minimum.
+fn entries_in(
     alloc: Global,
-    scopes: &mut Vec<Scoped>,
-    returns: &Returns,
+    setting: &Setting<'_>,
     stage: usize,
     what: &Distribution,
     steps: &[SeatStep],
     scope: Scope,
-) -> Result<(), NoMemory>
-    requires { IsScope returns.now scope }
-    ensures { OnOk result (Adds stage what.now scope (shown_entries returns.now stage what.now steps.now (items_in returns.now what.now.votes.shape scope)) scopes.old.items scopes.new.items) }
+) -> Result<Vec<Entry>, NoMemory>
+    requires scope { IsScope setting.now.returns.now scope }
+    requires stage { stage < length setting.now.book.now.stages.items }
+    ensures { IfOk result (λ entries. entries.items ≡ scope_entries setting.now.returns.now (name_of setting.now.book.now.stages.items stage) stage what.now steps.now (items_in setting.now.returns.now what.now.votes.shape scope)) }
 {
-    let items = items_in(alloc, returns, what.votes.shape, scope)?;
+    let returns = setting.returns;
+    let votes = what.votes.shape;
+    let items = items_in(alloc, returns, votes, scope)?;
+    let name = name_of(setting.book.stages.as_slice(), stage);
+    let lot = stage_lot(alloc, returns, name, votes, items.as_slice())?;
     let own = steps_in(alloc, steps, stage, scope)?;
-    let entries = shown_entries(
+    shown_entries(
         alloc,
         returns,
         stage,
         what,
         own.as_slice(),
+        lot.as_slice(),
         items.as_slice(),
-    )?;
+    )
+}
+
+// Adds a scope, if it has an entry.
+fn push_scope(
+    alloc: Global,
+    scopes: &mut Vec<Scoped>,
+    setting: &Setting<'_>,
+    stage: usize,
+    what: &Distribution,
+    steps: &[SeatStep],
+    scope: Scope,
+) -> Result<(), NoMemory>
+    requires scope { IsScope setting.now.returns.now scope }
+    requires stage { stage < length setting.now.book.now.stages.items }
+    ensures { OnOk result (Adds stage what.now scope (scope_entries setting.now.returns.now (name_of setting.now.book.now.stages.items stage) stage what.now steps.now (items_in setting.now.returns.now what.now.votes.shape scope)) scopes.old.items scopes.new.items) }
+{
+    let entries = entries_in(alloc, setting, stage, what, steps, scope)?;
     push_some(alloc, scopes, stage, what, scope, entries.as_slice())
 }
 
 // The scopes of a stage that have an entry, by what it distributes and by the steps that won its seats.
 fn scopes_of(
     alloc: Global,
-    returns: &Returns,
+    setting: &Setting<'_>,
     stage: usize,
     what: &Distribution,
     steps: &[SeatStep],
 ) -> Result<Vec<Scoped>, NoMemory>
-    ensures { IfOk result (λ found. AreScopes returns.now stage what.now steps.now found.items) }
+    requires { stage < length setting.now.book.now.stages.items }
+    ensures { IfOk result (λ found. AreScopes setting.now.returns.now (name_of setting.now.book.now.stages.items stage) stage what.now steps.now found.items) }
 {
     let mut scopes = Vec::new(alloc);
-    for number in 0..scope_count(returns, what.seats.shape) {
+    for number in 0..scope_count(setting.returns, what.seats.shape) {
         let scope = scope_at(what.seats.shape, number);
-        push_scope(alloc, &mut scopes, returns, stage, what, steps, scope)?;
+        push_scope(alloc, &mut scopes, setting, stage, what, steps, scope)?;
     }
     Ok(scopes)
 }
@@ -268,7 +300,7 @@ pub fn stage_scopes(
     let earlier = &counted.columns.as_slice()[..stage];
     let expr = &setting.book.stages[stage].expr;
     match distribution_of(alloc, setting, earlier, expr)? {
-        Some(what) => scopes_of(alloc, setting.returns, stage, &what, counted.table.steps()),
+        Some(what) => scopes_of(alloc, setting, stage, &what, counted.table.steps()),
         None => Ok(Vec::new(alloc)),
     }
 }

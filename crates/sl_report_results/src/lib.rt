@@ -9,6 +9,8 @@
 mod columns;
 mod contests;
 mod distributed;
+mod drawing;
+mod earlier;
 mod facts;
 mod fraction;
 mod lacking;
@@ -25,6 +27,7 @@ mod votes;
 pub use columns::sum_of;
 pub use contests::{Ranked, contested};
 pub use distributed::stage_scopes;
+pub use earlier::{EarlierParty, all_before, gone};
 pub use facts::{Setting, house_of, winners_at};
 pub use fraction::Fraction;
 pub use lacking::{lacking_votes, lacking_winners};

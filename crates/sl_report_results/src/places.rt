@@ -14,8 +14,8 @@ use sl_ratio::NoMemory;
 use sl_stages::{Column, Item, Returns, Scope, SeatStep, Shape};
 use std::alloc::Global;
 
-// Whether two entries are the same.
-fn same_item(first: Item, second: Item) -> bool
+/// Whether two entries are the same.
+pub(crate) fn same_item(first: Item, second: Item) -> bool
     ensures { result ≡ same_item first second }
 {
     first == second

@@ -8,6 +8,7 @@ ghost use Rattle.sl_report_results.specs.Scopes.{Follows, IsScoped, entry_of, is
 ghost use Rattle.sl_report_results.specs.Sums.{capped};
 
 use crate::columns::Distribution;
+use crate::drawing::lot_place;
 use crate::fraction::Fraction;
 use crate::margins::{Margins, margins_of};
 use crate::places::{items_in, number_of, seats_of};
@@ -17,7 +18,7 @@ use sl_stages::{Item, Returns, Scope, SeatStep};
 use std::alloc::Global;
 
 /// An entry of a scope: its weight in votes or people, its seats, its minimum, its quotient by the divisor or the quota, the votes that it lacks
-/// for one more seat, where a number is known, and whether a lot gave it a last seat, where one did or did not.
+/// for one more seat, where a number is known, whether a lot gave it a last seat, where one did or did not, and its place in the lot of the stage.
 #[derive(Clone, Copy)]
 pub struct Entry {
     pub item: Item,
@@ -27,6 +28,8 @@ pub struct Entry {
     pub quotient: Option<Fraction>,
     pub missing: Option<u64>,
     pub lot: Option<bool>,
+    /// The place in the lot, from 1, where the lot names the entry.
+    pub place: Option<u64>,
 }
 
 /// A scope of a split or a growth: what it distributes by which method, the divisor, that on the border of equal claims or the quota, the entries
@@ -56,9 +59,11 @@ fn entry_of(
     stage: usize,
     what: &Distribution,
     steps: &[SeatStep],
+    lot: &[usize],
+    items: &[Item],
     item: Item,
 ) -> Entry
-    ensures { result ≡ entry_of returns.now stage what.now steps.now item }
+    ensures { result ≡ entry_of returns.now stage what.now steps.now lot.now items.now item }
 {
     let minimum = match &what.minima {
         Some(minima) => number_of(returns, minima, item),
@@ -72,6 +77,7 @@ fn entry_of(
         quotient: None,
         missing: None,
         lot: None,
+        place: lot_place(lot, items, item),
     }
 }
 
@@ -85,20 +91,22 @@ fn push_shown(entries: &mut Vec<Entry>, entry: Entry) -> Result<(), NoMemory>
     Ok(())
 }
 
-/// The entries of a scope that have a weight, seats or a minimum.
+/// The entries of a scope that have a weight, seats or a minimum, by a lot among its items.
 pub(crate) fn shown_entries(
     alloc: Global,
     returns: &Returns,
     stage: usize,
     what: &Distribution,
     steps: &[SeatStep],
+    lot: &[usize],
     items: &[Item],
 ) -> Result<Vec<Entry>, NoMemory>
-    ensures { IfOk result (λ entries. entries.items ≡ shown_entries returns.now stage what.now steps.now items.now) }
+    ensures { IfOk result (λ entries. entries.items ≡ shown_entries returns.now stage what.now steps.now lot.now items.now) }
 {
     let mut entries: Vec<Entry> = Vec::new(alloc);
     for item in items {
-        push_shown(&mut entries, entry_of(returns, stage, what, steps, *item))?;
+        let entry = entry_of(returns, stage, what, steps, lot, items, *item);
+        push_shown(&mut entries, entry)?;
     }
     Ok(entries)
 }

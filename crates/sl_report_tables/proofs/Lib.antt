@@ -5,3 +5,4 @@ pub mod ComparedRows
 pub mod Divisors
 pub mod GrowingTables
 pub mod VotesRows
+pub mod EarlierSteps

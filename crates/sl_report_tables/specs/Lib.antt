@@ -7,6 +7,7 @@ pub mod Stages
 pub mod Faults
 pub mod Totals
 pub mod Compare
+pub mod Earlier
 pub mod Press
 pub mod Reports
 pub mod Ends

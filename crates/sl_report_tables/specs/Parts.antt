@@ -55,6 +55,7 @@ cells_of (part.Known n) = known n ∷ []
 cells_of (part.Change n before) = a_change n before ∷ []
 cells_of (part.Flag is) = a_flag is ∷ []
 cells_of (part.KnownFlag flag) = known_flag flag ∷ []
+cells_of (part.Name name) = a_name
 cells_of (part.Land land) = a_name
 cells_of (part.Party party) = a_name
 cells_of (part.Win win) = a_name

@@ -1,11 +1,13 @@
 -- The tables of a press report (docs/report.md).
 use Rattle.std.specs.List.{AllZip}
-use Rattle.std.specs.Prelude.{◌≡◌, ℕ, Bool, true, false, List, [], ◌∷◌, ◌++◌, Option, codes, filter, length, map, take}
-use Rattle.sl_report_forms.specs.Cells.{Content, a_number, a_text, known, nothing}
+use Rattle.std.specs.Prelude.{◌≡◌, ℕ, Bool, true, false, List, [], ◌∷◌, ◌++◌, Option, None, Some, codes, filter, length, map, option_map, take}
+use Rattle.sl_report_forms.specs.Cells.{Content, a_change, a_number, a_text, known, nothing}
 use Rattle.sl_report_forms.specs.Tables.{Table}
+use Rattle.sl_report_results.specs.Earlier.{all_before, is_gone}
 use Rattle.sl_report_results.specs.Lacking.{AreVotesFor, AreWinnersFor, Lacks}
 use Rattle.sl_report_results.specs.Press.{AreLeftOut}
 use Rattle.sl_report_results.specs.Seats.{all_seats}
+use Rattle.sl_report_results.specs.declared.earlier.EarlierParty.{EarlierParty}
 use Rattle.sl_report_results.specs.declared.press.Pressed.{Pressed}
 use Rattle.sl_report_results.specs.declared.press.Standing.{Standing}
 use Rattle.sl_report_results.specs.declared.scopes.Scoped.{Scoped}
@@ -19,24 +21,39 @@ use Rattle.sl_stages.specs.returns.Facts.{all_valid_votes}
 
 -- ---- the parties in the order of their seats, and all together
 
+-- the seats before, and by how many there are more or fewer, where an earlier table is given
+abbrev pub before_cells : (seats : ℕ) → Option ℕ → List Content
+before_cells seats None = nothing ∷ nothing ∷ []
+before_cells seats (Some before) = a_number before ∷ a_change seats before ∷ []
+
 abbrev pub press_row : Election → Pressed → List Content
 press_row e p =
     a_name
-    ++ a_number p.seats.seats ∷ a_number p.part.winners ∷ a_number p.seats.direct ∷ a_number p.part.votes.valid
+    ++ (a_number p.seats.seats ∷ before_cells p.seats.seats p.before)
+    ++ a_number p.part.winners ∷ a_number p.seats.direct ∷ a_number p.part.votes.valid
     ∷ rounded_cell p.part.votes.valid (all_valid_votes e) ∷ []
 
--- the seats of all, the constituencies with a winner, the winners who are seated, and all valid votes
-abbrev pub sum_row : Election → SeatTable → List Content
-sum_row e t =
+-- a party that had seats, and that the returns do not have
+abbrev pub gone_row : EarlierParty → List Content
+gone_row p = a_name ++ (a_number 0 ∷ before_cells 0 (Some p.seats)) ++ nothing ∷ nothing ∷ nothing ∷ nothing ∷ []
+
+abbrev pub gone_rows : Election → Option (List EarlierParty) → List (List Content)
+gone_rows e None = []
+gone_rows e (Some earlier) = map gone_row (filter (is_gone e) earlier)
+
+-- the seats of all, now and before, the constituencies with a winner, the winners who are seated, and all valid votes
+abbrev pub sum_row : Election → SeatTable → Option (List EarlierParty) → List Content
+sum_row e t earlier =
     nothing ∷ a_text
-    ∷ a_number (all_seats t).seats ∷ a_number (length e.wins) ∷ a_number (all_seats t).direct ∷ a_number (all_valid_votes e)
+    ∷ (a_number (all_seats t).seats ∷ before_cells (all_seats t).seats (option_map all_before earlier))
+    ++ a_number (length e.wins) ∷ a_number (all_seats t).direct ∷ a_number (all_valid_votes e)
     ∷ rounded_cell (all_valid_votes e) (all_valid_votes e) ∷ []
 
-abbrev pub press_table : Election → SeatTable → List Pressed → Table
-press_table e t pressed = record {
+abbrev pub press_table : Election → SeatTable → Option (List EarlierParty) → List Pressed → Table
+press_table e t earlier pressed = record {
   key = codes "press";
-  columns = codes "party" ∷ codes "party_name" ∷ codes "seats" ∷ codes "won" ∷ codes "direct" ∷ codes "valid" ∷ codes "percent" ∷ [];
-  rows = map (press_row e) pressed ++ sum_row e t ∷ [];
+  columns = codes "party" ∷ codes "party_name" ∷ codes "seats" ∷ codes "before" ∷ codes "change" ∷ codes "won" ∷ codes "direct" ∷ codes "valid" ∷ codes "percent" ∷ [];
+  rows = map (press_row e) pressed ++ (gone_rows e earlier ++ sum_row e t earlier ∷ []);
 }
 
 -- ---- who won the last seats of the country, and who has the next claims

@@ -1,9 +1,10 @@
 -- Which tables each command shows (docs/report.md).
 use Rattle.std.specs.List.{AllZip, range_with_len}
-use Rattle.std.specs.Prelude.{◌≡◌, ℕ, List, [], ◌∷◌, ◌++◌, Option, None, Some, filter, flat_map, get_or, length}
+use Rattle.std.specs.Prelude.{◌≡◌, ℕ, List, [], ◌∷◌, ◌++◌, Option, None, Some, filter, flat_map, get_or, length, option_map}
 use Rattle.sl_report_forms.specs.Tables.{Table}
 use Rattle.sl_report_results.specs.StageScopes.{AreStageScopes}
 use Rattle.sl_report_results.specs.Press.{ArePressed}
+use Rattle.sl_report_results.specs.declared.earlier.EarlierParty.{EarlierParty}
 use Rattle.sl_report_results.specs.declared.press.Pressed.{Pressed}
 use Rattle.sl_report_results.specs.declared.contests.Ranked.{Ranked}
 use Rattle.sl_report_results.specs.declared.scopes.Scoped.{Scoped}
@@ -60,14 +61,14 @@ module _ (b : Book) (e : Election) where
   -- ---- the report for the press
 
   -- the law, the parties that it shows, the scopes of the whole country, and the largest party of those left out
-  pub record IsPressReport (c : Counted) (tables : List Table) : Type 0 where
+  pub record IsPressReport (earlier : Option (List EarlierParty)) (c : Counted) (tables : List Table) : Type 0 where
     pub pressed : List Pressed
-    pub are_pressed : ArePressed b.eligible.items c.table e pressed
+    pub are_pressed : ArePressed b.eligible.items c.table e earlier pressed
     pub scopes : List Scoped
     pub all : AreAllScopes c scopes
     pub lacking : Table
     pub lacks : IsLackingTable b.eligible.items e lacking
-    pub tables_are : tables ≡ law_table (house_of b e) (Some c.table) ∷ press_table e c.table pressed ∷ scopes_table (filter is_whole scopes) ∷ lacking ∷ []
+    pub tables_are : tables ≡ law_table (house_of b e) (Some c.table) ∷ press_table e c.table earlier pressed ∷ scopes_table (filter is_whole scopes) ∷ lacking ∷ []
 
   -- ---- a legal fault
 
@@ -79,8 +80,8 @@ module _ (b : Book) (e : Election) where
 
   abbrev pub Shows : Show → End → List Table → Type 0
   Shows show.Report (end.Counted c) tables = IsCountReport c tables
-  Shows show.Short (end.Counted c) tables = IsPressReport c tables
+  Shows (show.Short earlier) (end.Counted c) tables = IsPressReport (option_map (λ all. all.now) earlier) c tables
   Shows show.Stages (end.Counted c) tables = tables ≡ stage_tables e c.columns.items
   Shows show.Report (end.Fault f) tables = IsFaultReport f tables
-  Shows show.Short (end.Fault f) tables = IsFaultReport f tables
+  Shows (show.Short earlier) (end.Fault f) tables = IsFaultReport f tables
   Shows show.Stages (end.Fault f) tables = IsFaultReport f tables

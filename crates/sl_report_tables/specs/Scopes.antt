@@ -40,13 +40,13 @@ abbrev pub entry_row : Bool → Entry → List Content
 entry_row has_minima x =
     a_text ∷ a_text ∷ a_name ++ sides_of x.item
     ++ a_number x.weight ∷ fraction_cells x.quotient
-    ++ a_number x.seats ∷ (if has_minima then a_number x.minimum else nothing) ∷ known x.missing ∷ known_flag x.lot ∷ []
+    ++ a_number x.seats ∷ (if has_minima then a_number x.minimum else nothing) ∷ known x.missing ∷ known_flag x.lot ∷ known x.place ∷ []
 
 abbrev pub entries_table : Scoped → Table
 entries_table s = record {
   key = codes "entries";
   columns = codes "stage" ∷ codes "scope" ∷ codes "entry" ∷ codes "entry_name" ∷ codes "land" ∷ codes "party" ∷ codes "votes" ∷ codes "quotient" ∷ codes "quotient_exact"
-      ∷ codes "seats" ∷ codes "minimum" ∷ codes "missing" ∷ codes "lot" ∷ [];
+      ∷ codes "seats" ∷ codes "minimum" ∷ codes "missing" ∷ codes "lot" ∷ codes "place" ∷ [];
   rows = map (entry_row s.has_minima) s.entries.items;
 }
 

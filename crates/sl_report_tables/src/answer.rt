@@ -13,6 +13,9 @@ use std::alloc::Global;
 const NAMES_FORM: &str =
     "each line is SHORT,FULL, two cells with a comma and no semicolon between them, in UTF-8 and not in Latin-1, without a header";
 
+// What an earlier seat table holds, as the line says that refuses one.
+const BEFORE_FORM: &str = "each line is one that `count` writes, such as `party CDU 208 172`";
+
 /// The form of an answer's text.
 #[derive(Clone, Copy)]
 pub enum Shape {
@@ -88,6 +91,22 @@ impl Answer {
         ensures { IfOk result (λ a. (a.status ≡ Status.Refused) × (a.sheets.items ≡ [])) }
     {
         let line = String::from_str(alloc, "refused names toolong: at most 4,194,304 bytes\n")?;
+        Ok(Answer::refused(alloc, line.into_bytes()))
+    }
+
+    // The line that refuses an earlier seat table in a line, with what such a line is.
+    pub(crate) fn refused_before(alloc: Global, line: usize) -> Result<Answer, NoMemory>
+        ensures { IfOk result (λ a. (a.status ≡ Status.Refused) × (a.sheets.items ≡ [])) }
+    {
+        let line = format!(in alloc; "refused before {line}: {BEFORE_FORM}\n")?;
+        Ok(Answer::refused(alloc, line.into_bytes()))
+    }
+
+    // The line that refuses an earlier seat table of too many bytes.
+    pub(crate) fn before_too_long(alloc: Global) -> Result<Answer, NoMemory>
+        ensures { IfOk result (λ a. (a.status ≡ Status.Refused) × (a.sheets.items ≡ [])) }
+    {
+        let line = String::from_str(alloc, "refused before toolong: at most 4,194,304 bytes\n")?;
         Ok(Answer::refused(alloc, line.into_bytes()))
     }
 

@@ -1,16 +1,22 @@
-//! The full names of an answer, or the answer that refuses them.
+//! The full names and the earlier seat table of an answer, or the answer that refuses one of them.
 
 ghost use Rattle.std.specs.Prelude.{◌≡◌, [], IfErr, IfOk, is_some, true};
 ghost use Rattle.sl_count_inputs.specs.declared.status.Status.TheVariants.{Refused};
+ghost use Rattle.sl_report_tables.specs.Earlier.{IsEarlier, IsEarlierIn};
 
 use crate::answer::Answer;
+use crate::earlier::earlier_parties;
 use crate::full_names::FullNames;
 use sl_count_inputs::Bytes;
 use sl_ratio::NoMemory;
+use sl_report_results::EarlierParty;
 use std::alloc::Global;
 
 /// Bytes of a file of names.
 pub const MAX_NAMES_BYTES: usize = 4_194_304;
+
+/// Bytes of an earlier seat table.
+pub const MAX_BEFORE_BYTES: usize = 4_194_304;
 
 /// The full names of a text, or the answer that refuses them. Where no text is given there are none.
 pub fn names_of(alloc: Global, names: Option<&[u8]>) -> Result<Result<FullNames, Answer>, NoMemory>
@@ -36,5 +42,40 @@ pub fn names_in(alloc: Global, read: &Option<Bytes>) -> Result<Result<FullNames,
         None => Ok(Ok(FullNames::none(alloc))),
         Some(Bytes::Whole(text)) => names_of(alloc, Some(text.as_slice())),
         Some(Bytes::TooLong) => Ok(Err(Answer::names_too_long(alloc)?)),
+    }
+}
+
+// The parties of a text that is an earlier seat table, or the answer that refuses it.
+fn earlier_of<'a>(
+    alloc: Global,
+    text: &'a [u8],
+) -> Result<Result<Vec<EarlierParty<'a>>, Answer>, NoMemory>
+    ensures told { IfOk result (λ r. IfOk r (λ found. IsEarlier text.now found.items)) }
+    ensures refused { IfOk result (λ r. IfErr r (λ a. (a.status ≡ Refused) × (a.sheets.items ≡ []))) }
+{
+    let Ok(text) = std::str::from_utf8(text) else {
+        return Ok(Err(Answer::refused_before(alloc, 1)?));
+    };
+    match earlier_parties(alloc, text)? {
+        Ok(found) => Ok(Ok(found)),
+        Err(line) => Ok(Err(Answer::refused_before(alloc, line)?)),
+    }
+}
+
+/// The parties of an earlier seat table that was read, if one was, or the answer that refuses it.
+pub fn earlier_in<'a>(
+    alloc: Global,
+    read: &'a Option<Bytes>,
+) -> Result<Result<Option<Vec<EarlierParty<'a>>>, Answer>, NoMemory>
+    ensures told { IfOk result (λ r. IfOk r (λ found. IsEarlierIn read.now found)) }
+    ensures refused { IfOk result (λ r. IfErr r (λ a. (is_some read.now ≡ true) × (a.status ≡ Refused) × (a.sheets.items ≡ []))) }
+{
+    match read {
+        None => Ok(Ok(None)),
+        Some(Bytes::TooLong) => Ok(Err(Answer::before_too_long(alloc)?)),
+        Some(Bytes::Whole(text)) => match earlier_of(alloc, text.as_slice())? {
+            Ok(found) => Ok(Ok(Some(found))),
+            Err(refusal) => Ok(Err(refusal)),
+        },
     }
 }

@@ -16,27 +16,36 @@ use crate::stages::stage_sheets;
 use sl_explain_texts::Language;
 use sl_ratio::NoMemory;
 use sl_report_forms::Sheet;
-use sl_report_results::{Setting, parts_of};
+use sl_report_results::{EarlierParty, Setting, parts_of};
 use sl_stages::{CheckedBook, End, LegalFault, Returns};
 use std::alloc::Global;
 
 /// What a command shows of a count.
 #[derive(Clone, Copy)]
-pub enum Show {
+pub enum Show<'a> {
     /// All of it, as `report` does.
     Report,
-    /// What the press needs of it, as `report --short` does.
-    Short,
+    /// What the press needs of it, as `report --short` does, beside the parties of an earlier seat table, where one is given.
+    Short(Option<&'a [EarlierParty<'a>]>),
     /// The columns of all stages, as `stages` does.
     Stages,
 }
 
-impl Show {
+impl Show<'_> {
+    /// The same, beside the parties of an earlier seat table where one is given and shown.
+    pub fn beside<'a>(self, earlier: Option<&'a [EarlierParty<'a>]>) -> Show<'a> {
+        match self {
+            Show::Report => Show::Report,
+            Show::Short(_) => Show::Short(earlier),
+            Show::Stages => Show::Stages,
+        }
+    }
+
     /// The command.
     pub fn command(self) -> &'static str {
         match self {
             Show::Report => "report",
-            Show::Short => "report --short",
+            Show::Short(_) => "report --short",
             Show::Stages => "stages",
         }
     }
@@ -60,18 +69,20 @@ fn sheets_of_fault(
 // The sheets that show how a count ends.
 fn sheets_of(
     alloc: Global,
-    show: Show,
+    show: Show<'_>,
     setting: &Setting<'_>,
     naming: &Naming<'_>,
     end: &End,
 ) -> Result<Vec<Sheet>, NoMemory>
     requires held { HoldsEnd (book_of setting.now.book.now) setting.now.returns.now end.now }
     requires named { naming.now.returns.now ≡ setting.now.returns.now }
-    ensures { IfOk result (λ sheets. Shows setting.now.book.now setting.now.returns.now show end.now (map table_of sheets.items)) }
+    ensures { IfOk result (λ sheets. Shows setting.now.book.now setting.now.returns.now show.entry end.now (map table_of sheets.items)) }
 {
     match (show, end) {
         (Show::Report, End::Counted(counted)) => report_sheets(alloc, setting, naming, counted),
-        (Show::Short, End::Counted(counted)) => press_sheets(alloc, setting, naming, counted),
+        (Show::Short(earlier), End::Counted(counted)) => {
+            press_sheets(alloc, setting, naming, counted, earlier)
+        }
         (Show::Stages, End::Counted(counted)) => stage_sheets(alloc, setting, naming, counted),
         (_, End::Fault(fault)) => sheets_of_fault(alloc, setting, naming, fault),
     }
@@ -91,7 +102,7 @@ fn answer_of(alloc: Global, end: &End, line: Vec<u8>, sheets: Vec<Sheet>) -> Ans
 /// The answer that shows how the count of a good book on good returns ends; a legal fault is told by the line with which counting does.
 pub fn count_answer(
     alloc: Global,
-    show: Show,
+    show: Show<'_>,
     book: &CheckedBook,
     returns: &Returns,
     full: &FullNames,
@@ -101,7 +112,7 @@ pub fn count_answer(
 ) -> Result<Answer, NoMemory>
     requires { HoldsEnd (book_of book.now.book) returns.now end.now }
     ensures status { IfOk result (λ a. a.status ≡ end_status end.now) }
-    ensures shows { IfOk result (λ a. Shows book.now.book returns.now show end.now (map table_of a.sheets.items)) }
+    ensures shows { IfOk result (λ a. Shows book.now.book returns.now show.entry end.now (map table_of a.sheets.items)) }
 {
     let naming = Naming {
         returns,

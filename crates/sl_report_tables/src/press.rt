@@ -2,12 +2,14 @@
 //! out lacks.
 
 ghost use Rattle.std.specs.List.{AllZip};
-ghost use Rattle.std.specs.Prelude.{◌≡◌, ◌++◌, ◌∷◌, [], IfOk, List, OnOk, filter, if◌then◌else◌, map, take};
+ghost use Rattle.std.specs.Prelude.{◌≡◌, ◌++◌, ◌∷◌, [], IfOk, List, OnOk, filter, flat_map, if◌then◌else◌, map, option_map, take};
 ghost use Rattle.sl_report_forms.specs.Cells.{Content};
 ghost use Rattle.sl_report_forms.specs.Tables.{table_of, with_rows};
+ghost use Rattle.sl_report_results.specs.Earlier.{all_before};
 ghost use Rattle.sl_report_results.specs.Press.{ArePressed};
 ghost use Rattle.sl_report_results.specs.declared.press.Pressed.{Pressed};
-ghost use Rattle.sl_report_tables.specs.Press.{IsLackingRow, IsLackingTable, is_whole, press_row, press_table, sum_row};
+ghost use Rattle.sl_report_tables.specs.Press.{IsLackingRow, IsLackingTable, before_cells, gone_row, gone_rows, is_whole, press_row, press_table, sum_row};
+ghost use Rattle.sl_report_tables.specs.Parts.{cells_of};
 ghost use Rattle.sl_report_tables.specs.Reports.{IsPressReport};
 ghost use Rattle.sl_report_tables.specs.Scopes.{scope_row, scopes_table};
 ghost use Rattle.sl_stages.specs.book.Books.{book_of};
@@ -22,16 +24,18 @@ use crate::titles;
 use sl_ratio::NoMemory;
 use sl_report_forms::{Form, Look, Sheet};
 use sl_report_results::{
-    Counted, Pressed, Scoped, Setting, Standing, all_votes, by_seats, lacking_votes,
-    lacking_winners, left_out, seats_in_all,
+    Counted, EarlierParty, Pressed, Scoped, Setting, Standing, all_before, all_votes, by_seats,
+    gone, lacking_votes, lacking_winners, left_out, seats_in_all,
 };
 use sl_stages::{Book, Cond, Scope, Table};
 use std::alloc::Global;
 
-const PRESS: [Form; 7] = [
+const PRESS: [Form; 9] = [
     ("party", "party", "Partei", Look::Text(12)),
     ("party_name", "name", "Name", Look::Text(30)),
     ("seats", "seats", "Sitze", Look::Number),
+    ("before", "before", "zuvor", Look::Number),
+    ("change", "change", "Änderung", Look::Number),
     ("won", "won", "gewonnen", Look::Number),
     ("direct", "seated", "mit Sitz", Look::Number),
     ("valid", "votes", "Stimmen", Look::Number),
@@ -52,6 +56,16 @@ const LEFT_OUT: [Form; 6] = [
     ),
 ];
 
+// The seats before, and by how many there are more or fewer, where these are known.
+fn before_parts(seats: u64, before: Option<u64>) -> [Part<'static>; 2]
+    ensures { flat_map cells_of result ≡ before_cells seats before }
+{
+    match before {
+        Some(before) => [Part::Number(before), Part::Change(seats, before)],
+        None => [Part::Empty, Part::Empty],
+    }
+}
+
 // Adds the row of a party, of so many valid votes in all.
 fn push_pressed(
     alloc: Global,
@@ -64,9 +78,12 @@ fn push_pressed(
     ensures { OnOk result (table_of sheet.new ≡ with_rows (table_of sheet.old) (press_row naming.now.returns.now pressed ∷ [])) }
 {
     let votes = pressed.part.votes.valid;
+    let [before, change] = before_parts(pressed.seats.seats, pressed.before);
     let parts = [
         Part::Party(pressed.party),
         Part::Number(pressed.seats.seats),
+        before,
+        change,
         Part::Number(pressed.part.winners),
         Part::Number(pressed.seats.direct),
         Part::Number(votes),
@@ -75,21 +92,35 @@ fn push_pressed(
     push_row(alloc, sheet, naming, &parts)
 }
 
+// The seats of all parties of an earlier table, where one is given.
+fn all_seats_before(earlier: Option<&[EarlierParty<'_>]>) -> Option<u64>
+    ensures { result ≡ option_map all_before (option_map (λ all. all.now) earlier.entry) }
+{
+    match earlier {
+        Some(earlier) => Some(all_before(earlier)),
+        None => None,
+    }
+}
+
 // Adds the row of all together, of so many valid votes in all.
 fn push_sum(
     alloc: Global,
     sheet: &mut Sheet,
     naming: &Naming<'_>,
     table: &Table,
+    earlier: Option<&[EarlierParty<'_>]>,
     valid: u64,
 ) -> Result<(), NoMemory>
     requires { valid ≡ all_valid_votes naming.now.returns.now }
-    ensures { OnOk result (table_of sheet.new ≡ with_rows (table_of sheet.old) (sum_row naming.now.returns.now table.now ∷ [])) }
+    ensures { OnOk result (table_of sheet.new ≡ with_rows (table_of sheet.old) (sum_row naming.now.returns.now table.now (option_map (λ all. all.now) earlier.entry) ∷ [])) }
 {
     let all = seats_in_all(table);
+    let [before, change] = before_parts(all.seats, all_seats_before(earlier));
     let parts = [
         Part::InPlace(ALL),
         Part::Number(all.seats),
+        before,
+        change,
         Part::Number(naming.returns.wins() as u64),
         Part::Number(all.direct),
         Part::Number(valid),
@@ -116,21 +147,79 @@ fn push_each(
     Ok(())
 }
 
-// The parties with a seat or a constituency, and all together.
+// Adds the row of a party that had seats, and that the returns do not have.
+fn push_gone(
+    alloc: Global,
+    sheet: &mut Sheet,
+    naming: &Naming<'_>,
+    party: EarlierParty<'_>,
+) -> Result<(), NoMemory>
+    ensures { OnOk result (table_of sheet.new ≡ with_rows (table_of sheet.old) (gone_row party.entry ∷ [])) }
+{
+    let [before, change] = before_parts(0, Some(party.seats));
+    let parts = [
+        Part::Name(party.name),
+        Part::Number(0),
+        before,
+        change,
+        Part::Empty,
+        Part::Empty,
+        Part::Empty,
+        Part::Empty,
+    ];
+    push_row(alloc, sheet, naming, &parts)
+}
+
+// Adds the rows of these parties.
+#[tactic(auto, using(crate::proofs::MoreRows::rows_next))]
+fn push_all_gone(
+    alloc: Global,
+    sheet: &mut Sheet,
+    naming: &Naming<'_>,
+    parties: &[EarlierParty<'_>],
+) -> Result<(), NoMemory>
+    ensures { OnOk result (table_of sheet.new ≡ with_rows (table_of sheet.old) (map gone_row parties.now)) }
+{
+    for party in parties {
+        push_gone(alloc, sheet, naming, *party)?;
+    }
+    Ok(())
+}
+
+// Adds the rows of the parties of an earlier table, if one is given, that had seats and that the returns do not have.
+fn push_gone_from(
+    alloc: Global,
+    sheet: &mut Sheet,
+    naming: &Naming<'_>,
+    earlier: Option<&[EarlierParty<'_>]>,
+) -> Result<(), NoMemory>
+    ensures { OnOk result (table_of sheet.new ≡ with_rows (table_of sheet.old) (gone_rows naming.now.returns.now (option_map (λ all. all.now) earlier.entry))) }
+{
+    let Some(earlier) = earlier else {
+        return Ok(());
+    };
+    let parties = gone(alloc, naming.returns, earlier)?;
+    push_all_gone(alloc, sheet, naming, parties.as_slice())
+}
+
+// The parties with a seat or a constituency, now or before, and all together.
 fn press_sheet(
     alloc: Global,
     setting: &Setting<'_>,
     naming: &Naming<'_>,
     table: &Table,
+    earlier: Option<&[EarlierParty<'_>]>,
 ) -> Result<Sheet, NoMemory>
-    ensures { IfOk result (λ s. (found : List Pressed) × ArePressed setting.now.book.now.eligible.items table.now setting.now.returns.now found
-        × (table_of s ≡ press_table naming.now.returns.now table.now found)) }
+    ensures { IfOk result (λ s. (found : List Pressed)
+        × ArePressed setting.now.book.now.eligible.items table.now setting.now.returns.now (option_map (λ all. all.now) earlier.entry) found
+        × (table_of s ≡ press_table naming.now.returns.now table.now (option_map (λ all. all.now) earlier.entry) found)) }
 {
-    let found = by_seats(alloc, setting, table)?;
+    let found = by_seats(alloc, setting, table, earlier)?;
     let valid = all_votes(naming.returns).valid;
     let mut sheet = titled(alloc, naming, "press", titles::PRESS, &PRESS)?;
     push_each(alloc, &mut sheet, naming, found.as_slice(), valid)?;
-    push_sum(alloc, &mut sheet, naming, table, valid)?;
+    push_gone_from(alloc, &mut sheet, naming, earlier)?;
+    push_sum(alloc, &mut sheet, naming, table, earlier, valid)?;
     Ok(sheet)
 }
 
@@ -232,23 +321,26 @@ fn lacking_sheet(
     Ok(sheet)
 }
 
-/// The sheets of a press report on one count: the law; the parties with seats or constituencies, in the order of their seats, and all together; who won
+/// The sheets of a press report on one count: the law; the parties with seats or constituencies, in the order of their seats, and all together, beside
+/// the seats of an earlier table, if one is given; who won
 /// the last seats of the country and has the next claims; and what the largest party of those left out lacks.
 pub(crate) fn press_sheets(
     alloc: Global,
     setting: &Setting<'_>,
     naming: &Naming<'_>,
     counted: &Counted,
+    earlier: Option<&[EarlierParty<'_>]>,
 ) -> Result<Vec<Sheet>, NoMemory>
     requires held { HoldsStages (book_of setting.now.book.now) setting.now.returns.now counted.now.columns.items }
     requires named { naming.now.returns.now ≡ setting.now.returns.now }
-    ensures { IfOk result (λ sheets. IsPressReport setting.now.book.now setting.now.returns.now counted.now (map table_of sheets.items)) }
+    ensures { IfOk result (λ sheets. IsPressReport setting.now.book.now setting.now.returns.now (option_map (λ all. all.now) earlier.entry) counted.now
+        (map table_of sheets.items)) }
 {
     let table = &counted.table;
     let scopes = all_scopes(alloc, setting, counted)?;
     let mut sheets: Vec<Sheet> = Vec::new(alloc);
     sheets.push(law_sheet(alloc, setting, naming, Some(table))?)?;
-    sheets.push(press_sheet(alloc, setting, naming, table)?)?;
+    sheets.push(press_sheet(alloc, setting, naming, table, earlier)?)?;
     sheets.push(whole_sheet(alloc, setting.book, naming, scopes.as_slice())?)?;
     sheets.push(lacking_sheet(alloc, setting, naming)?)?;
     Ok(sheets)

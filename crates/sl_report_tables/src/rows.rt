@@ -38,6 +38,8 @@ pub enum Part<'a> {
     Flag(bool),
     /// A flag, or an empty cell.
     KnownFlag(Option<bool>),
+    /// A short name, with the one that a reader sees.
+    Name(&'a str),
     /// The names of a Land.
     Land(usize),
     /// The names of a party.
@@ -273,6 +275,7 @@ fn put(alloc: Global, row: &mut Row, naming: &Naming<'_>, part: Part<'_>) -> Res
         Part::Flag(flag) => put_flag(row, naming, flag),
         Part::KnownFlag(Some(flag)) => put_flag(row, naming, flag),
         Part::KnownFlag(None) => row.empty(),
+        Part::Name(name) => put_name(alloc, row, naming, name),
         Part::Land(land) => put_name(alloc, row, naming, land_name(naming.returns, land)),
         Part::Party(party) => put_name(alloc, row, naming, party_name(naming.returns, party)),
         Part::Win(win) => put_name(alloc, row, naming, win_name(naming.returns, win)),

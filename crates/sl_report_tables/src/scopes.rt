@@ -35,7 +35,7 @@ pub(crate) const SCOPES: [Form; 14] = [
     ("lot", "", "", Look::Hidden),
 ];
 
-const ENTRIES: [Form; 13] = [
+const ENTRIES: [Form; 14] = [
     ("stage", "", "", Look::Hidden),
     ("scope", "", "", Look::Hidden),
     ("entry", "", "", Look::Hidden),
@@ -49,6 +49,7 @@ const ENTRIES: [Form; 13] = [
     ("minimum", "minimum", "Minimum", Look::Number),
     ("missing", "votes missing", "Stimmen fehlen", Look::Number),
     ("lot", "lot", "Los", Look::Text(4)),
+    ("place", "drawn", "gezogen", Look::Number),
 ];
 
 // The short names of the entries of these numbers.
@@ -205,6 +206,7 @@ fn push_entry(
         minimum,
         Part::Known(entry.missing),
         Part::KnownFlag(entry.lot),
+        Part::Known(entry.place),
     ];
     push_row(alloc, sheet, naming, &parts)
 }

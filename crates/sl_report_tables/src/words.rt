@@ -18,6 +18,23 @@ pub fn method_word(method: Method) -> &'static str {
     }
 }
 
+// All methods.
+const METHODS: [Method; 6] = [
+    Method::Divisor(Divisor::Webster),
+    Method::Divisor(Divisor::Jefferson),
+    Method::Divisor(Divisor::Adams),
+    Method::Divisor(Divisor::Dean),
+    Method::Divisor(Divisor::Hill),
+    Method::Hamilton,
+];
+
+/// The method that a book writes so.
+pub fn method_of(word: &str) -> Option<Method> {
+    METHODS
+        .into_iter()
+        .find(|method| method_word(*method) == word)
+}
+
 /// The words for a flag.
 pub(crate) const YES: Message = Message {
     english: "yes",

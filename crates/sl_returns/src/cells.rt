@@ -142,8 +142,8 @@ pub(crate) fn known_or_none(
     Ok(Some(number))
 }
 
-// The number that a cell spells, if it is one to twelve digits.
-fn spelled_number(cell: &[u8]) -> Option<u64>
+/// The number that a cell spells, if it is one to twelve digits.
+pub fn spelled_number(cell: &[u8]) -> Option<u64>
     ensures { result ≡ (if is_number cell.now then Some (number_of cell.now) else None) }
 {
     if cell.is_empty() || cell.len() > MAX_DIGITS {

@@ -22,7 +22,7 @@ mod sieve;
 mod told;
 
 pub use builder::ReturnsBuilder;
-pub use cells::MAX_DIGITS;
+pub use cells::{MAX_DIGITS, spelled_number};
 pub use fault::{FaultKind, RecordFault, ReturnsFault};
 pub use places::{Place, cell_place};
 pub use read::{read_or_refuse, read_returns};

@@ -1,11 +1,14 @@
 -- The end of a command over several inputs, and of which refusal it tells, by what the inputs' bytes come to.
-use Rattle.std.proofs.Common.{All, Contains, List, Option, Some, [], arith, get_or, inl, inr, length, map, refl, slice_get, subst, sym, ◌<◌, ◌∷◌, ◌≡◌, ◌∙◌, ap, ℕ}
+use Rattle.std.proofs.Common.{All, Any, Contains, IfSome, List, None, Option, Some, [], arith, get_or, inl, inr, length, map, refl, slice_get, subst, sym, ◌<◌, ◌≤◌, ◌∷◌, ◌≡◌, ◌∙◌, ap, ℕ}
 use Rattle.std.proofs.Math.ListN.{get_or-map}
 use Rattle.std.proofs.lemmas.List.{length-map}
 use Rattle.std.proofs.lemmas.Option.{get_or_from_slice_get, slice_get_within}
 use Rattle.std.proofs.lemmas.List.Elements.{All-map, All-nil, All-push}
 use Rattle.sl_explain_calls.specs.Codes.{book_code, election_code, subject}
-use Rattle.sl_count_inputs.specs.Judging.{election_verdict, tree_verdict}
+use Rattle.sl_count_inputs.specs.Books.{IsBookVerdict}
+use Rattle.sl_count_inputs.specs.Judging.{election_verdict, refusal_of, tree_verdict}
+use Rattle.sl_report_commands.specs.Methods.{IsTreeVerdictBy, IsVerdictBy}
+use Rattle.sl_terminal_count.specs.Inputs.{named_input}
 use Rattle.sl_count_inputs.specs.declared.refused_book.RefusedBook.{RefusedBook}
 use Rattle.sl_count_inputs.specs.declared.refused_election.RefusedElection.{RefusedElection}
 use Rattle.sl_count_inputs.specs.declared.status.Input.TheVariants as input
@@ -15,10 +18,14 @@ use Rattle.sl_count_inputs.specs.declared.verdict.Verdict.{Verdict}
 use Rattle.sl_stages.specs.book.Books.{book_of}
 use Rattle.sl_stages.specs.declared.checked.CheckedBook.{CheckedBook}
 use Rattle.sl_stages.specs.returns.Election.{Election}
-use Rattle.sl_terminal_commands.specs.Sums.{AreJudged, IsGoodBook, IsOfComparison, IsOfSums, IsSummary, IsVerdictOn}
+use Rattle.sl_terminal_commands.specs.Sums.{AreJudged, IsGoodBook, IsOfComparison, IsOfSums, IsRefusedBy, IsSummary, IsVerdictOn}
 use Rattle.sl_terminal_commands.specs.declared.sums.NamedBook.{NamedBook}
-use Rattle.sl_terminal_commands.specs.inner.Verdicts.{IsDoneOrRefused, IsEndBy, IsEndOfAll, IsEndOn, IsGood, IsOfBoth, IsOfCompared, IsOfElection, IsOfOneOf, IsOfTable}
+use Rattle.sl_terminal_commands.specs.inner.Verdicts.{IsDoneOrRefused, IsEndBy, IsEndOfAll, IsEndOn, IsGood, IsOfBoth, IsOfCompared, IsOfElection, IsOfOneOf, IsOfVaried, IsVariedOf}
 use Rattle.sl_terminal_commands.specs.Said.{Said, fault}
+
+if_some_wider : {A : Type 0} (known : Option A) (P Q : A → Type 0) → ((a : A) → P a → Q a) → IfSome known P → IfSome known Q
+if_some_wider None P Q wider is = tt
+if_some_wider (Some a) P Q wider is = wider a is
 
 module _ (bytes : List ℕ → Option (List ℕ)) (returns : List ℕ) (w : Verdict Election RefusedElection) (judged : AreJudged (bytes returns) (election_verdict w)) where
   good_by : (word : List ℕ) (v : Verdict CheckedBook RefusedBook) → IsVerdictOn bytes word (tree_verdict v) → IsGood v → IsGoodBook bytes word
@@ -82,10 +89,45 @@ module _ (bytes : List ℕ → Option (List ℕ)) (returns : List ℕ) (w : Verd
         of_book (map word books) k b.word.now (subst (λ n. k < n) (sym (length-map books word)) lt) (get_or-map word books k b ∙ ap word at) b.read.verdict
         (subst (λ (b : NamedBook). IsVerdictOn bytes b.word.now (tree_verdict b.read.verdict)) at (on k b lt)) refused same says
 
-    pub of_compared : (books : List NamedBook) → All (λ (b : NamedBook). IsVerdictOn bytes b.word.now (tree_verdict b.read.verdict)) books → IsOfCompared books w Says
-        → IsOfComparison bytes returns (map (λ (b : NamedBook). b.word.now) books) Says
-    of_compared books on (inl of) = inl (of_one books on of)
-    of_compared books on (inr (e, same, says)) = inr (e, subst (λ w. AreJudged (bytes returns) (election_verdict w)) same judged, says)
+    -- a good rulebook by another method
+    refused_by : (books : List NamedBook) → All (λ (b : NamedBook). IsVerdictOn bytes b.word.now (tree_verdict b.read.verdict)) books → (given : ℕ) → (v : NamedBook)
+        → (refused : RefusedBook) → IsVariedOf given books v → v.read.verdict ≡ Refused refused
+        → Any (IsRefusedBy bytes (subject input.Book (book_code refused))) (map (λ (b : NamedBook). b.word.now) books)
+    refused_by books on given v refused (b, book, (k, lt, at), good, (some, (asked, by))) same =
+        let word = λ (b : NamedBook). b.word.now in
+        let there : IsVerdictOn bytes b.word.now (Good (book_of book.book)) =
+        subst (λ v. IsVerdictOn bytes b.word.now (tree_verdict v)) good
+        (subst (λ (b : NamedBook). IsVerdictOn bytes b.word.now (tree_verdict b.read.verdict)) at (on k b lt)) in (
+          k,
+          b.word.now,
+          subst (λ n. k < n) (sym (length-map books word)) lt,
+          get_or-map word books k b ∙ ap word at,
+          (
+            asked,
+            (
+              refused,
+              if_some_wider (named_input bytes b.word.now) (λ i. IsBookVerdict i (Good (book_of book.book))) (λ i. IsVerdictBy asked i (Refused (refusal_of refused)))
+                  (λ i is. (book_of book.book, is, subst (λ v. IsTreeVerdictBy asked (book_of book.book) (tree_verdict v)) same by)) there,
+              refl,
+            ),
+          ),
+        )
+
+    pub of_compared : (books : List NamedBook) → All (λ (b : NamedBook). IsVerdictOn bytes b.word.now (tree_verdict b.read.verdict)) books → (methods : List (List ℕ))
+        → (given : ℕ) → given ≤ length methods → IsOfCompared given books w Says → IsOfComparison bytes returns (map (λ (b : NamedBook). b.word.now) books) methods Says
+    of_compared books on methods given few (inl of) = inl (of_one books on of)
+    of_compared books on methods given few (inr (e, same, inl (inl says))) = inl (inl says)
+    of_compared books on methods given few (inr (e, same, inl (inr says))) =
+        inr (inl (e, subst (λ w. AreJudged (bytes returns) (election_verdict w)) same judged, says))
+    of_compared books on methods given few (inr (e, same, inr (v, refused, (b, book, there, good, (some, by)), is, says))) =
+        inr (
+        inr (
+          omega (arith, few, some),
+          subject input.Book (book_code refused),
+          refused_by books on given v refused (b, book, there, good, (some, by)) is,
+          says,
+        )
+        )
 
 -- a good rulebook
 pub end_by : (book : Verdict CheckedBook RefusedBook) (returns : Verdict Election RefusedElection) (good : CheckedBook) → book ≡ Good good → (ends : Status)
@@ -103,8 +145,7 @@ end_of_all books returns e is good ends (inr refused) = inr refused
 pub contains_first : (books : List NamedBook) (b : NamedBook) → Some b ≡ slice_get books 0 → Contains books b
 contains_first books b is = (0, slice_get_within books 0 b (sym is), get_or_from_slice_get books 0 b b (sym is))
 
--- what is told of a table
-pub of_table : (books : List NamedBook) (returns : Verdict Election RefusedElection) (e : Election) → returns ≡ Good e → (Says : Said → Type 0) → IsOfTable e Says
-    → IsOfCompared books returns Says
-of_table books returns e is Says (inl says) = inl (inl (inl says))
-of_table books returns e is Says (inr says) = inr (e, is, says)
+-- what is told of good rulebooks on good returns
+pub of_varied : (given : ℕ) (books : List NamedBook) (returns : Verdict Election RefusedElection) (e : Election) → returns ≡ Good e → (Says : Said → Type 0)
+    → IsOfVaried given books e Says → IsOfCompared given books returns Says
+of_varied given books returns e is Says of = inr (e, is, of)

@@ -1,6 +1,6 @@
 -- What each request writes to standard output, where the bytes of its files are known (docs/output.md, docs/report.md).
 use Rattle.std.specs.Option.{option_map}
-use Rattle.std.specs.Prelude.{Bool, IfSome, List, Option, is_some, map, ◌≡◌, ◌⊎◌, ℕ}
+use Rattle.std.specs.Prelude.{Bool, IfSome, List, Option, is_some, map, ◌≡◌, ◌⊎◌, ◌||◌, ℕ}
 use Rattle.sl_count_calls.specs.Counting.{IsOutput, ShowsSeats}
 use Rattle.sl_count_calls.specs.Showing.{IsStageOutput}
 use Rattle.sl_count_calls.specs.Steps.{ShowsSteps}
@@ -33,17 +33,17 @@ IsShown (Stage name) = IsStageOutput name.now
 abbrev pub IsListing : BookInput → Status → List ℕ → Type 0
 IsListing input ends text = (file : List ℕ) × IsCompilingOutput input ends file text
 
--- the status of a report of one count
+-- the status of a report of one count; is_named: a file of names or an earlier table is given
 abbrev pub IsReportOf : (List ℕ → Option (List ℕ)) → List ℕ → List ℕ → (is_named : Bool) → Status → Type 0
 IsReportOf bytes book returns is_named ends = ForKnown (named_input bytes book) (bytes returns) (λ input known. IsReportStatus is_named input known ends)
 
 -- a command that reports, by its status alone: its tables are no part of this
 abbrev pub IsReportEnd : (List ℕ → Option (List ℕ)) → Report → (is_named : Bool) → Status → Type 0
 IsReportEnd bytes (what.Count book returns) is_named ends = IsReportOf bytes book.now returns.now is_named ends
-IsReportEnd bytes (what.Short book returns) is_named ends = IsReportOf bytes book.now returns.now is_named ends
+IsReportEnd bytes (what.Short book returns before) is_named ends = IsReportOf bytes book.now returns.now (is_some before || is_named) ends
 IsReportEnd bytes (what.Stages book returns) is_named ends = IsReportOf bytes book.now returns.now is_named ends
 IsReportEnd bytes (what.Totals returns book) is_named ends = IsSummary bytes returns.now (given_word (option_map (λ word. word.now) book)) ends
-IsReportEnd bytes (what.Compare returns books) is_named ends = IsSummary bytes returns.now (map (λ word. word.now) books.items) ends
+IsReportEnd bytes (what.Compare returns books methods) is_named ends = IsSummary bytes returns.now (map (λ word. word.now) books.items) ends
 
 abbrev pub IsOutputOf : (List ℕ → Option (List ℕ)) → Request → Status → List ℕ → Type 0
 IsOutputOf bytes (asked.Count show book returns) ends text = ForKnown (named_input bytes book.now) (bytes returns.now) (λ input known. IsShown show input known ends text)

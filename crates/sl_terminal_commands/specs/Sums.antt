@@ -1,5 +1,5 @@
 -- How a command that sums up returns, or that puts rulebooks side by side, ends, and of which fault is told (docs/report.md).
-use Rattle.std.specs.Prelude.{All, Any, IfSome, List, None, Option, Some, [], ◌∷◌, ◌≡◌, ◌⊎◌, ℕ}
+use Rattle.std.specs.Prelude.{All, Any, IfSome, List, None, Option, Some, [], length, ◌<◌, ◌∷◌, ◌≡◌, ◌⊎◌, ℕ}
 use Rattle.sl_explain_calls.specs.Codes.{Subject, book_code, election_code, subject}
 use Rattle.sl_count_inputs.specs.Books.{IsBookVerdict}
 use Rattle.sl_count_inputs.specs.Judging.{refusal_of, returns_refusal_of}
@@ -13,6 +13,8 @@ use Rattle.sl_count_inputs.specs.declared.status.Status.TheVariants as status
 use Rattle.sl_count_inputs.specs.declared.status.Status.{Status}
 use Rattle.sl_count_inputs.specs.declared.verdict.Verdict.TheVariants.{Good, Refused}
 use Rattle.sl_count_inputs.specs.declared.verdict.Verdict.{Verdict}
+use Rattle.sl_ratio.specs.declared.method.Method.{Method}
+use Rattle.sl_report_commands.specs.Methods.{IsVerdictBy}
 use Rattle.sl_terminal_count.specs.Inputs.{named_input}
 use Rattle.sl_stages.specs.book.Trees.{BookTree}
 use Rattle.sl_stages.specs.returns.Election.{Election}
@@ -50,10 +52,18 @@ abbrev pub IsOfSums : (List ℕ → Option (List ℕ)) → List ℕ → List (Li
 IsOfSums bytes returns books Says =
     Says nothing ⊎ ((s : Subject) × (AreRefused (bytes returns) s ⊎ Any (IsRefusedBook bytes s) books) × Says (fault s))
 
--- of rulebooks side by side: the same, or warnings of good returns
-abbrev pub IsOfComparison : (List ℕ → Option (List ℕ)) → List ℕ → List (List ℕ) → (Said → Type 0) → Type 0
-IsOfComparison bytes returns books Says =
-    IsOfSums bytes returns books Says ⊎ ((e : Election) × AreJudged (bytes returns) (Good e) × Says (warned (warnings_of None e)))
+-- a good rulebook fails a test by another method, with that subject
+abbrev pub IsRefusedBy : (List ℕ → Option (List ℕ)) → Subject → List ℕ → Type 0
+IsRefusedBy bytes s word =
+    (asked : Method) × ((refused : RefusedBook) × IfSome (named_input bytes word) (λ book. IsVerdictBy asked book (Refused (refusal_of refused)))
+    × (s ≡ subject input.Book (book_code refused)))
+
+-- of rulebooks side by side: the same, or warnings of good returns, or where methods are given of a rulebook that one of them refuses
+abbrev pub IsOfComparison : (List ℕ → Option (List ℕ)) → List ℕ → (books methods : List (List ℕ)) → (Said → Type 0) → Type 0
+IsOfComparison bytes returns books methods Says =
+    IsOfSums bytes returns books Says
+    ⊎ (((e : Election) × AreJudged (bytes returns) (Good e) × Says (warned (warnings_of None e)))
+    ⊎ ((0 < length methods) × (s : Subject) × Any (IsRefusedBy bytes s) books × Says (fault s)))
 
 -- the word of a rulebook that is given, if one is
 abbrev pub given_word : Option (List ℕ) → List (List ℕ)

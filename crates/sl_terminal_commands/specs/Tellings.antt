@@ -1,6 +1,6 @@
 -- What is told of each request on standard error: the fault that it met, or warnings of what it counted.
 use Rattle.std.specs.Option.{option_map}
-use Rattle.std.specs.Prelude.{Bool, IfSome, List, None, Option, Some, false, is_some, map, true, ◌≡◌, ◌⊎◌, ℕ}
+use Rattle.std.specs.Prelude.{Bool, IfSome, List, None, Option, Some, false, is_some, map, true, ◌≡◌, ◌⊎◌, ◌||◌, ℕ}
 use Rattle.sl_count_outcomes.specs.Judged.{IsJudged}
 use Rattle.sl_count_outcomes.specs.declared.judged.Judged.{Judged}
 use Rattle.sl_stages.specs.declared.count.Records.TheVariants as records
@@ -48,16 +48,17 @@ abbrev pub IsOfRun : (List ℕ → Option (List ℕ)) → List ℕ → List ℕ 
 IsOfRun bytes code returns Says =
     (judged : JudgedRun) × ForKnown (bytes code) (bytes returns) (λ file known. IsJudgedRun file known judged) × Says (said_of (run_subject judged))
 
--- of a report of one count: as of that count, or where names are refused nothing
+-- of a report of one count: as of that count, or where names or an earlier table are refused nothing
 abbrev pub IsOfReport : (List ℕ → Option (List ℕ)) → List ℕ → List ℕ → (is_named : Bool) → (Said → Type 0) → Type 0
 IsOfReport bytes book returns is_named Says = IsOfCount bytes records.Kept None book returns Says ⊎ ((is_named ≡ true) × Says nothing)
 
 abbrev pub IsOfWhat : (List ℕ → Option (List ℕ)) → Report → (is_named : Bool) → (Said → Type 0) → Type 0
 IsOfWhat bytes (what.Count book returns) is_named Says = IsOfReport bytes book.now returns.now is_named Says
-IsOfWhat bytes (what.Short book returns) is_named Says = IsOfReport bytes book.now returns.now is_named Says
+IsOfWhat bytes (what.Short book returns before) is_named Says = IsOfReport bytes book.now returns.now (is_some before || is_named) Says
 IsOfWhat bytes (what.Stages book returns) is_named Says = IsOfReport bytes book.now returns.now is_named Says
 IsOfWhat bytes (what.Totals returns book) is_named Says = IsOfSums bytes returns.now (given_word (option_map (λ word. word.now) book)) Says
-IsOfWhat bytes (what.Compare returns books) is_named Says = IsOfComparison bytes returns.now (map (λ word. word.now) books.items) Says
+IsOfWhat bytes (what.Compare returns books methods) is_named Says =
+    IsOfComparison bytes returns.now (map (λ word. word.now) books.items) (map (λ word. word.now) methods.items) Says
 
 -- of a request: of the fault that it met
 abbrev pub IsOfFault : (List ℕ → Option (List ℕ)) → Request → (Said → Type 0) → Type 0
@@ -72,10 +73,10 @@ IsOfFault bytes (asked.Report what form names) Says = IsOfWhat bytes what (is_so
 -- requests that warn of what they count
 abbrev pub warns_of : Report → Bool
 warns_of (what.Count book returns) = true
-warns_of (what.Short book returns) = true
+warns_of (what.Short book returns before) = true
 warns_of (what.Stages book returns) = true
 warns_of (what.Totals returns book) = false
-warns_of (what.Compare returns books) = true
+warns_of (what.Compare returns books methods) = true
 
 abbrev pub warns : Request → Bool
 warns (asked.Count show book returns) = true

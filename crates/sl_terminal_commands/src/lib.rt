@@ -14,6 +14,7 @@ mod reports;
 mod sums;
 mod telling;
 mod terminal;
+mod varied;
 
 pub use program::run;
 pub use terminal::Terminal;

@@ -7,6 +7,7 @@ ghost use Rattle.sl_explain_calls.specs.Codes.{book_code, subject, subject_of};
 ghost use Rattle.sl_terminal_commands.specs.inner.Verdicts.{IsGood};
 
 use crate::sums::NamedBook;
+use crate::varied::add_method;
 use sl_count_inputs::{RefusedBook, Verdict};
 use sl_explain_calls::{Explained, explain_book};
 use sl_ratio::NoMemory;
@@ -48,6 +49,7 @@ pub(crate) fn explain_refused(
 {
     let text = first.book.read.text.as_slice();
     let mut explained = explain_book(alloc, language, text, first.refused)?;
+    add_method(alloc, language, &mut explained, first.book.method)?;
     for book in first.further {
         if let Verdict::Refused(refused) = &book.read.verdict {
             let text = book.read.text.as_slice();

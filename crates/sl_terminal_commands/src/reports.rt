@@ -1,6 +1,6 @@
 //! The commands that report, over files: each input is read and judged once, and each rulebook is run once.
 
-ghost use Rattle.std.specs.Prelude.{◌≡◌, IfErr, IfOk, None, false, is_some, true};
+ghost use Rattle.std.specs.Prelude.{◌≡◌, ◌<◌, ◌^◌, ◌⊎◌, ◌||◌, Err, IfErr, IfOk, None, false, is_some, true};
 ghost use Rattle.sl_count_outcomes.specs.Fitting.{FitsJudged};
 ghost use Rattle.sl_count_outcomes.specs.Judged.{IsJudged};
 ghost use Rattle.sl_stages.specs.declared.count.Records.TheVariants.{Kept};
@@ -17,19 +17,20 @@ ghost use Rattle.sl_terminal_commands.specs.inner.Reports.{IsShownBy, SaysBy};
 
 use crate::failure::Failure;
 use crate::terminal::Terminal;
-use sl_count_inputs::{BookText, Input, Sink, Status, read_all};
+use sl_count_inputs::{BookText, Bytes, Input, Sink, Status, read_all};
 use sl_count_outcomes::{Read, Records, judge_read};
 use sl_report_commands::{
-    Answer, FullNames, MAX_NAMES_BYTES, Shape, Show, Style, Texts, answer_judged, bytes_of,
-    judged_text, names_in,
+    Answer, EarlierParty, FullNames, MAX_BEFORE_BYTES, MAX_NAMES_BYTES, Shape, Show, Style, Texts,
+    answer_judged, bytes_of, earlier_in, judged_text, names_in,
 };
 use sl_terminal_count::{Outside, open, open_book};
 use sl_terminal_words::{Report, ReportForm};
 
-// How a report is written: with the names of a file, if one is given, in a form and in a language.
+// How a report is written: with the names of a file and beside the earlier seat table of one, where they are given, in a form and in a language.
 #[derive(Clone, Copy)]
 pub(crate) struct Writing<'a> {
     pub(crate) names: Option<&'a str>,
+    pub(crate) before: Option<&'a str>,
     pub(crate) style: Style,
 }
 
@@ -61,7 +62,41 @@ fn texts_of<'a>(word: &'a str, read: &'a Read<'_>) -> Texts<'a> {
     }
 }
 
+// The names and the earlier table, or the answer that refuses the first of them that is refused.
+fn first_refusal<'a>(
+    names: Result<FullNames, Answer>,
+    earlier: Result<Option<Vec<EarlierParty<'a>>>, Answer>,
+) -> (Result<FullNames, Answer>, Option<Vec<EarlierParty<'a>>>)
+    ensures { IfErr result.0 (λ a. (names ≡ Err a) ⊎ (earlier.entry ≡ Err a)) }
+{
+    match names {
+        Err(refusal) => (Err(refusal), None),
+        Ok(names) => match earlier {
+            Ok(earlier) => (Ok(names), earlier),
+            Err(refusal) => (Err(refusal), None),
+        },
+    }
+}
+
 impl<O: Outside, W: Sink, E: Sink> Terminal<O, W, E> {
+    // The bytes of a file beside the inputs of a count, if one is given.
+    fn read_beside<'a>(
+        &self,
+        path: Option<&'a str>,
+        input: Input,
+        limit: usize,
+    ) -> Result<Option<Bytes>, Failure<'a, O::Reason>>
+        requires { limit < 2 ^ 32 }
+        ensures read { IfOk result (λ read. is_some read ≡ is_some path.entry) }
+        ensures early { IfErr result IsEarly }
+    {
+        let Some(path) = path else {
+            return Ok(None);
+        };
+        let mut file = open(&self.outside, path, input)?;
+        Ok(Some(read_all(self.alloc, &mut file, input, limit)?))
+    }
+
     // The full names of a file, if one is given, or the answer that refuses them.
     pub(crate) fn full_names<'a>(
         &self,
@@ -70,13 +105,7 @@ impl<O: Outside, W: Sink, E: Sink> Terminal<O, W, E> {
         ensures refused { IfOk result (λ full. IfErr full (λ a. (is_some path.entry ≡ true) × (a.status ≡ status.Refused))) }
         ensures early { IfErr result IsEarly }
     {
-        let read = match path {
-            Some(path) => {
-                let mut file = open(&self.outside, path, Input::Names)?;
-                Some(read_all(self.alloc, &mut file, Input::Names, MAX_NAMES_BYTES)?)
-            }
-            None => None,
-        };
+        let read = self.read_beside(path, Input::Names, MAX_NAMES_BYTES)?;
         Ok(names_in(self.alloc, &read)?)
     }
 
@@ -96,10 +125,10 @@ impl<O: Outside, W: Sink, E: Sink> Terminal<O, W, E> {
         Ok(judge_read(Records::Kept, self.alloc, &mut source, None, &mut file)?)
     }
 
-    // What a rulebook and returns come to, and the answer that shows it, or that refuses the names.
+    // What a rulebook and returns come to, and the answer that shows it, or that refuses the names or the earlier table.
     fn reported<'a>(
         &self,
-        show: Show,
+        show: Show<'_>,
         book: &'a str,
         returns: &'a str,
         writing: Writing<'a>,
@@ -107,11 +136,14 @@ impl<O: Outside, W: Sink, E: Sink> Terminal<O, W, E> {
         ensures judged { IfOk result (λ both. ForKnown (named_input (O.bytes self.now.outside) book.now) (O.bytes self.now.outside returns.now) (λ input bytes.
             IsJudged Kept None input bytes both.0.judged)) }
         ensures shown { IfOk result (λ both. IfOk both.1 (λ a. a.status ≡ judged_status both.0.judged)) }
-        ensures refused { IfOk result (λ both. IfErr both.1 (λ a. (is_some writing.entry.names ≡ true) × (a.status ≡ status.Refused))) }
+        ensures refused { IfOk result (λ both. IfErr both.1 (λ a. ((is_some writing.entry.before || is_some writing.entry.names) ≡ true) × (a.status ≡ status.Refused))) }
         ensures early { IfErr result IsEarly }
     {
         let read = self.judged_at(book, returns)?;
         let names = self.full_names(writing.names)?;
+        let table = self.read_beside(writing.before, Input::Before, MAX_BEFORE_BYTES)?;
+        let (names, earlier) = first_refusal(names, earlier_in(self.alloc, &table)?);
+        let show = show.beside(earlier.as_deref());
         let language = writing.style.language;
         let answer = answer_judged(self.alloc, show, &read.judged, &names, language)?;
         Ok((read, answer))
@@ -145,16 +177,16 @@ impl<O: Outside, W: Sink, E: Sink> Terminal<O, W, E> {
     #[tactic(auto, using(crate::proofs::Deliveries::ends_early))]
     fn report_count<'a>(
         &mut self,
-        show: Show,
+        show: Show<'_>,
         book: &'a str,
         returns: &'a str,
         writing: Writing<'a>,
     ) -> Result<Status, Failure<'a, O::Reason>>
-        ensures ends { Ends (λ ends _. IsReportOf (O.bytes self.old.outside) book.now returns.now (is_some writing.entry.names) ends)
+        ensures ends { Ends (λ ends _. IsReportOf (O.bytes self.old.outside) book.now returns.now (is_some writing.entry.before || is_some writing.entry.names) ends)
             (W.contents self.old.out) (W.contents self.new.out) result }
         ensures quiet { IfOk result (λ _. self.old.is_quiet ≡ true → self.new.err ≡ self.old.err) }
         ensures done { IfOk result (λ ends. ends ≡ status.Done → OnlyWarns E.contents self.old self.new) }
-        ensures told { IfOk result (λ _. IsOfReport (O.bytes self.old.outside) book.now returns.now (is_some writing.entry.names) (Says E.contents self.old self.new)) }
+        ensures told { IfOk result (λ _. IsOfReport (O.bytes self.old.outside) book.now returns.now (is_some writing.entry.before || is_some writing.entry.names) (Says E.contents self.old self.new)) }
     {
         let (read, answer) = self.reported(show, book, returns, writing)?;
         let texts = texts_of(book, &read);
@@ -184,6 +216,7 @@ impl<O: Outside, W: Sink, E: Sink> Terminal<O, W, E> {
     {
         let writing = Writing {
             names,
+            before: None,
             style: Style {
                 shape: shape_of(form),
                 language: self.language,
@@ -193,15 +226,28 @@ impl<O: Outside, W: Sink, E: Sink> Terminal<O, W, E> {
             Report::Count { book, returns } => {
                 self.report_count(Show::Report, *book, *returns, writing)
             }
-            Report::Short { book, returns } => {
-                self.report_count(Show::Short, *book, *returns, writing)
+            Report::Short {
+                book,
+                returns,
+                before,
+            } => {
+                let writing = Writing {
+                    before: *before,
+                    ..writing
+                };
+                self.report_count(Show::Short(None), *book, *returns, writing)
             }
             Report::Stages { book, returns } => {
                 self.report_count(Show::Stages, *book, *returns, writing)
             }
             Report::Totals { returns, book } => self.report_totals(*returns, *book, writing),
-            Report::Compare { returns, books } => {
-                self.report_comparison(*returns, books.as_slice(), writing)
+            Report::Compare {
+                returns,
+                books,
+                methods,
+            } => {
+                let methods = methods.as_slice();
+                self.report_comparison(*returns, books.as_slice(), methods, writing)
             }
         }
     }

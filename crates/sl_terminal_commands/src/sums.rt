@@ -1,7 +1,7 @@
 //! The commands that report of several rulebooks or of none: the sums of returns, and rulebooks side by side. Each input is read and judged once.
 
 ghost use Rattle.std.specs.Option.{option_map};
-ghost use Rattle.std.specs.Prelude.{◌≡◌, All, Contains, IfErr, IfOk, IfSome, None, map, true};
+ghost use Rattle.std.specs.Prelude.{◌≡◌, All, Contains, IfErr, IfOk, IfSome, None, length, map, true};
 ghost use Rattle.sl_explain_calls.specs.Codes.{book_code, election_code, subject};
 ghost use Rattle.sl_count_inputs.specs.Judging.{election_verdict, tree_verdict};
 ghost use Rattle.sl_count_inputs.specs.declared.status.Input.TheVariants as input;
@@ -11,7 +11,7 @@ ghost use Rattle.sl_terminal_commands.specs.Ends.{Ends, IsEarly, IsSilent};
 ghost use Rattle.sl_terminal_commands.specs.Sums.{AreJudged, IsOfComparison, IsOfSums, IsSummary, IsVerdictOn, given_word};
 ghost use Rattle.sl_terminal_commands.specs.Frames.{TellsNothing};
 ghost use Rattle.sl_terminal_commands.specs.Said.{OnlyWarns, Says, fault};
-ghost use Rattle.sl_terminal_commands.specs.inner.Verdicts.{IsDoneOrRefused, IsEndBy, IsEndOfAll, IsEndOn, IsGood, IsOfBoth, IsOfCompared, IsOfElection, IsOfOneOf, IsOfTable};
+ghost use Rattle.sl_terminal_commands.specs.inner.Verdicts.{IsDoneOrRefused, IsEndBy, IsEndOfAll, IsEndOn, IsGood, IsOfBoth, IsOfCompared, IsOfElection, IsOfOneOf, IsOfTable, IsOfVaried};
 
 use crate::failure::Failure;
 use crate::manner::{Manner, called_inputs, inputs_of};
@@ -19,12 +19,13 @@ use crate::refused_books::{FirstRefused, explain_refused, first_refused};
 use crate::reports::Writing;
 use crate::telling::ReadFile;
 use crate::terminal::Terminal;
+use crate::varied::{all_varied, behind, column_words, methods_of};
 use sl_count_inputs::{
     Input, ReadBook, ReadReturns, RefusedBook, RefusedElection, Sink, Status, Verdict, read_book,
     read_election,
 };
 use sl_explain_calls::explain_election;
-use sl_ratio::NoMemory;
+use sl_ratio::{Method, NoMemory};
 use sl_report_commands::{
     Answer, Compared, FullNames, Language, compare_judged, compare_statutes, totals_answer,
 };
@@ -32,10 +33,11 @@ use sl_stages::{CheckedBook, Returns};
 use sl_terminal_count::{Outside, open, open_book};
 use std::alloc::Global;
 
-/// A rulebook that was read, with the word that names it.
+/// A rulebook that was read, with the word that names it, and with the method that took the place of its own, if one did.
 #[derive(Drop)]
 pub(crate) struct NamedBook<'a> {
     pub(crate) word: &'a str,
+    pub(crate) method: Option<Method>,
     pub(crate) read: ReadBook<'a>,
 }
 
@@ -54,11 +56,17 @@ fn good_book(verdict: Verdict<CheckedBook, RefusedBook<'_>>) -> Option<CheckedBo
     }
 }
 
-// The good ones of some rulebooks.
-fn good_books(alloc: Global, books: Vec<NamedBook<'_>>) -> Result<Vec<Compared<'_>>, NoMemory> {
-    let mut good: Vec<Compared<'_>> = Vec::new(alloc);
+// The good ones of some rulebooks, under these words.
+fn good_books<'a>(
+    alloc: Global,
+    books: Vec<NamedBook<'_>>,
+    words: &'a [String],
+) -> Result<Vec<Compared<'a>>, NoMemory> {
+    let mut good: Vec<Compared<'a>> = Vec::new(alloc);
+    let mut words = words.iter();
     for named in books {
-        let NamedBook { word, read } = named;
+        let NamedBook { read, .. } = named;
+        let word = words.next().map_or("", |word| word.as_str());
         if let Some(book) = good_book(read.verdict) {
             good.push(Compared { word, book })?;
         }
@@ -79,7 +87,9 @@ fn comparison(
     if books.is_empty() {
         return compare_statutes(alloc, returns, full, language);
     }
-    compare_judged(alloc, good_books(alloc, books)?, returns, full, language)
+    let words = column_words(alloc, books.as_slice())?;
+    let good = good_books(alloc, books, words.as_slice())?;
+    compare_judged(alloc, good, returns, full, language)
 }
 
 impl<O: Outside, W: Sink, E: Sink> Terminal<O, W, E> {
@@ -89,7 +99,11 @@ impl<O: Outside, W: Sink, E: Sink> Terminal<O, W, E> {
         ensures early { IfErr result IsEarly }
     {
         let read = read_book(self.alloc, &mut open_book(&self.outside, word)?)?;
-        Ok(NamedBook { word, read })
+        Ok(NamedBook {
+            word,
+            method: None,
+            read,
+        })
     }
 
     fn books_at<'a>(&self, words: &[&'a str]) -> Result<Vec<NamedBook<'a>>, Failure<'a, O::Reason>>
@@ -337,10 +351,36 @@ impl<O: Outside, W: Sink, E: Sink> Terminal<O, W, E> {
         self.refuse_returns(returns, refused, manner)
     }
 
-    // Puts rulebooks side by side, or refuses one of them or the returns. Before returns that are refused the first rulebook alone may be.
+    // Puts good rulebooks side by side, and behind them themselves with each of these methods; or refuses one that fails a test so.
+    fn compare_varied<'a>(
+        &mut self,
+        books: Vec<NamedBook<'_>>,
+        methods: &[Method],
+        election: &Returns,
+        names: Result<FullNames, Answer>,
+        manner: Manner<'_>,
+    ) -> Result<Status, Failure<'a, O::Reason>>
+        ensures ends { Ends (λ ends _. IsDoneOrRefused ends) (W.contents self.old.out) (W.contents self.new.out) result }
+        ensures quiet { IfOk result (λ _. self.old.is_quiet ≡ true → self.new.err ≡ self.old.err) }
+        ensures done { IfOk result (λ ends. ends ≡ status.Done → OnlyWarns E.contents self.old self.new) }
+        ensures told { IfOk result (λ _. IsOfVaried (length methods.now) books.entry.items election.now (Says E.contents self.old self.new)) }
+    {
+        let varied = all_varied(self.alloc, books.as_slice(), methods)?;
+        match first_refused(varied.as_slice()) {
+            Some(first) => self.refuse_book(first, manner),
+            None => {
+                let all = behind(books, varied)?;
+                self.finish_comparison(all, election, names, manner)
+            }
+        }
+    }
+
+    // Puts rulebooks side by side, also with each of these methods, or refuses one of them or the returns. Before returns that are refused the first
+    // rulebook alone may be.
     fn compare<'a>(
         &mut self,
         books: Vec<NamedBook<'_>>,
+        methods: &[Method],
         returns: &NamedReturns<'_>,
         names: Result<FullNames, Answer>,
         manner: Manner<'_>,
@@ -348,12 +388,12 @@ impl<O: Outside, W: Sink, E: Sink> Terminal<O, W, E> {
         ensures ends { Ends (λ ends _. IsEndOfAll books.entry.items returns.now.read.verdict ends) (W.contents self.old.out) (W.contents self.new.out) result }
         ensures quiet { IfOk result (λ _. self.old.is_quiet ≡ true → self.new.err ≡ self.old.err) }
         ensures done { IfOk result (λ ends. ends ≡ status.Done → OnlyWarns E.contents self.old self.new) }
-        ensures told { IfOk result (λ _. IsOfCompared books.entry.items returns.now.read.verdict (Says E.contents self.old self.new)) }
+        ensures told { IfOk result (λ _. IsOfCompared (length methods.now) books.entry.items returns.now.read.verdict (Says E.contents self.old self.new)) }
     {
         match &returns.read.verdict {
             Verdict::Good(election) => match first_refused(books.as_slice()) {
                 Some(first) => self.refuse_book(first, manner),
-                None => self.finish_comparison(books, election, names, manner),
+                None => self.compare_varied(books, methods, election, names, manner),
             },
             Verdict::Refused(refused) => {
                 self.refuse_comparison(books.as_slice(), returns, refused, manner)
@@ -361,25 +401,28 @@ impl<O: Outside, W: Sink, E: Sink> Terminal<O, W, E> {
         }
     }
 
-    /// Puts the rulebooks of some words side by side, or those of the library where there are none.
+    /// Puts the rulebooks of some words side by side, also with the methods of other words, or those of the library where there are none.
     #[tactic(auto, using(crate::proofs::Deliveries::ends_early))]
     pub(crate) fn report_comparison<'a>(
         &mut self,
         returns: &'a str,
         books: &[&'a str],
+        methods: &[&'a str],
         writing: Writing<'a>,
     ) -> Result<Status, Failure<'a, O::Reason>>
         ensures ends { Ends (λ ends _. IsSummary (O.bytes self.old.outside) returns.now (map (λ word. word.now) books.now) ends)
             (W.contents self.old.out) (W.contents self.new.out) result }
         ensures quiet { IfOk result (λ _. self.old.is_quiet ≡ true → self.new.err ≡ self.old.err) }
         ensures done { IfOk result (λ ends. ends ≡ status.Done → OnlyWarns E.contents self.old self.new) }
-        ensures told { IfOk result (λ _. IsOfComparison (O.bytes self.old.outside) returns.now (map (λ word. word.now) books.now) (Says E.contents self.old self.new)) }
+        ensures told { IfOk result (λ _. IsOfComparison (O.bytes self.old.outside) returns.now (map (λ word. word.now) books.now) (map (λ word. word.now) methods.now)
+            (Says E.contents self.old self.new)) }
     {
         let returns = self.returns_at(returns)?;
         let books = self.books_at(books)?;
+        let methods = methods_of(self.alloc, methods)?;
         let names = self.full_names(writing.names)?;
         let inputs = called_inputs(self.alloc, books.as_slice(), &returns, writing.style)?;
         let manner = Manner::new("compare", writing.style, inputs.as_slice());
-        self.compare(books, &returns, names, manner)
+        self.compare(books, methods.as_slice(), &returns, names, manner)
     }
 }

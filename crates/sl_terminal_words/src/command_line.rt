@@ -132,9 +132,17 @@ fn arg_of<'a>(alloc: Global, language: Language, word: &Word) -> Result<Arg<'a>,
         Given::Value(value) => {
             Ok(named(arg, word, ArgAction::Set).value_name(value.in_language(language)))
         }
+        Given::Beside(value, flag) => {
+            let arg = named(arg, word, ArgAction::Set).value_name(value.in_language(language));
+            arg.requires_arg(flag)
+        }
         Given::Choice(value, values) => {
             let arg = named(arg, word, ArgAction::Set).value_name(value.in_language(language));
             Ok(arg.value_parser(values))
+        }
+        Given::Choices(value, values, beside) => {
+            let arg = named(arg, word, ArgAction::Append).value_name(value.in_language(language));
+            arg.value_parser(values).requires_arg(beside)
         }
         Given::Repeated => Ok(arg.action(ArgAction::Append).num_args(0..)),
         Given::Optional => Ok(arg.action(ArgAction::Set)),

@@ -2,8 +2,8 @@
 
 use crate::statuses::{ALL, COUNTS, READS, RUNS, TELLS};
 use crate::words::{
-    BOOK, BOOKS, CODE_FILE, CODE_OPTIONS, COUNT_REPORT_OPTIONS, FAULT_CODE, OPTIONAL_BOOK, OPTIONS,
-    OUT, REPORT_OPTIONS, RETURNS, STAGE_NAME, STATUTE, Word,
+    BOOK, BOOKS, CODE_FILE, CODE_OPTIONS, COMPARE_OPTIONS, COUNT_REPORT_OPTIONS, FAULT_CODE,
+    OPTIONAL_BOOK, OPTIONS, OUT, REPORT_OPTIONS, RETURNS, STAGE_NAME, STATUTE, Word,
 };
 use sl_explain_texts::Message;
 
@@ -256,7 +256,7 @@ const COMPARE: Form = Form {
         german: "Zählt eine Wahl nach mehreren Regelwerken aus und schreibt die Sitze nebeneinander",
     },
     words: &[RETURNS, BOOKS],
-    options: &REPORT_OPTIONS,
+    options: &COMPARE_OPTIONS,
     more: Message {
         english: "Reads returns and rulebooks; without one, the six statutes of the library. Writes the\n\
                   seats of each party and of each list by each of them, and the first stage in which they\n\

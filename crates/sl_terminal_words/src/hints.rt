@@ -66,8 +66,28 @@ const CODE_ALONE: Message = Message {
 };
 
 const REPORT_ALONE: Message = Message {
-    english: "`--short` is an option of report",
-    german: "`--short` ist eine Option von report",
+    english: "`--short` and `--before` are options of report",
+    german: "`--short` und `--before` sind Optionen von report",
+};
+
+const BESIDE_SHORT: Message = Message {
+    english: "`--before` stands beside `--short`, as in `seatlaw report --short --before earlier.txt @2023-order returns.csv`",
+    german: "`--before` steht neben `--short`, wie in `seatlaw report --short --before frueher.txt @2023-order returns.csv`",
+};
+
+const NO_RULEBOOK: Message = Message {
+    english: "`--method` stands beside a rulebook, as in `seatlaw compare returns.csv @2023-order --method hill`",
+    german: "`--method` steht neben einem Regelwerk, wie in `seatlaw compare returns.csv @2023-order --method hill`",
+};
+
+const METHODS: Message = Message {
+    english: "`webster` is Sainte-Laguë's method, `jefferson` d'Hondt's, `hamilton` that of largest remainders",
+    german: "`webster` ist das Verfahren von Sainte-Laguë, `jefferson` das von d'Hondt, `hamilton` das der größten Reste",
+};
+
+const COMPARE_ALONE: Message = Message {
+    english: "`--method` is an option of compare; a rulebook says its method itself",
+    german: "`--method` ist eine Option von compare; ein Regelwerk nennt sein Verfahren selbst",
 };
 
 const IN_PLACE: Message = Message {
@@ -127,7 +147,8 @@ fn about_option(word: &str) -> Option<&'static Message> {
     };
     match name {
         "--markdown" | "--html" | "--json" | "--csv" | "--names" => Some(&REPORTS),
-        "--short" => Some(&REPORT_ALONE),
+        "--short" | "--before" => Some(&REPORT_ALONE),
+        "--method" => Some(&COMPARE_ALONE),
         "--force" => Some(&CODE_ALONE),
         "--book" | "--law" | "--returns" | "--input" | "--file" => Some(&IN_PLACE),
         "--output" | "--out" | "--format" | "-o" => Some(&REDIRECT),
@@ -148,12 +169,33 @@ fn about_options(words: &[String]) -> Option<&'static Message> {
     words.iter().find_map(|word| about_option(word.as_str()))
 }
 
+// Whether a word begins so.
+fn has_word(words: &[String], beginning: &str) -> bool {
+    words
+        .iter()
+        .any(|word| word.as_str().starts_with(beginning))
+}
+
+// What is said of an option that stands beside a word that is missing.
+fn beside_missing(words: &[String]) -> Option<&'static Message> {
+    match command_of(words)?.name {
+        "report" if has_word(words, "--before") && !has_word(words, "--short") => {
+            Some(&BESIDE_SHORT)
+        }
+        "compare" if has_word(words, "--method") => Some(&NO_RULEBOOK),
+        _ => None,
+    }
+}
+
 // What to do where a word of a command is missing.
 fn about_missing(
     alloc: Global,
     language: Language,
     words: &[String],
 ) -> Result<Option<Vec<u8>>, NoMemory> {
+    if let Some(message) = beside_missing(words) {
+        return Ok(Some(message.text(alloc, language, &[])?));
+    }
     Ok(match command_of(words) {
         Some(form) if form.name == "stage" => Some(STAGE.text(alloc, language, &[])?),
         Some(form) => Some(EXAMPLE.text(alloc, language, &[form.example.as_bytes()])?),
@@ -182,6 +224,9 @@ pub(crate) fn hint_of(
             Ok(Some(about_command(alloc, language, command_word(words))?))
         }
         ErrorKind::MissingRequiredArgument => about_missing(alloc, language, words),
+        ErrorKind::InvalidValue if has_word(words, "--method") => {
+            Ok(Some(METHODS.text(alloc, language, &[])?))
+        }
         ErrorKind::UnknownArgument => match about_options(words) {
             Some(message) => Ok(Some(message.text(alloc, language, &[])?)),
             None => Ok(None),

@@ -77,7 +77,10 @@ fn shown(alloc: Global, language: Language, word: &Word) -> Result<String, Alloc
         Given::Repeated => format!(in alloc; "[{name}]..."),
         Given::Flag(_) => format!(in alloc; "    --{name}"),
         Given::Letter(letter) => format!(in alloc; "-{letter}, --{name}"),
-        Given::Value(value) | Given::Choice(value, _) => {
+        Given::Value(value)
+        | Given::Beside(value, _)
+        | Given::Choice(value, _)
+        | Given::Choices(value, _, _) => {
             let value = value.in_language(language);
             format!(in alloc; "    --{name} <{value}>")
         }
@@ -98,7 +101,7 @@ fn push_values(text: &mut String, language: Language, values: &[&str]) -> Result
 // What a word stands for, with the values that it may have.
 fn said(alloc: Global, language: Language, word: &Word) -> Result<String, AllocError> {
     let mut text = String::from_str(alloc, word.help.in_language(language))?;
-    if let Given::Choice(_, values) = word.given {
+    if let Given::Choice(_, values) | Given::Choices(_, values, _) = word.given {
         push_values(&mut text, language, values)?;
     }
     Ok(text)

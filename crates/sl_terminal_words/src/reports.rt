@@ -11,10 +11,11 @@ pub enum Report<'a> {
         book: &'a str,
         returns: &'a str,
     },
-    /// What the press needs of one count.
+    /// What the press needs of one count, with the changes since an earlier seat table if one is given.
     Short {
         book: &'a str,
         returns: &'a str,
+        before: Option<&'a str>,
     },
     /// All stages of a count.
     Stages {
@@ -26,10 +27,11 @@ pub enum Report<'a> {
         returns: &'a str,
         book: Option<&'a str>,
     },
-    /// Several rulebooks side by side; those of the library, if none is given.
+    /// Several rulebooks side by side, those of the library if none is given; each as it is, and with each of the methods.
     Compare {
         returns: &'a str,
         books: Vec<&'a str>,
+        methods: Vec<&'a str>,
     },
 }
 
@@ -58,10 +60,14 @@ pub(crate) fn form_of(given: &ArgMatches<'_>) -> ReportForm {
     }
 }
 
-// The rulebooks that are given.
-fn given_books<'a>(alloc: Global, given: &ArgMatches<'a>) -> Result<Vec<&'a str>, AllocError> {
-    match given.get_strs("BOOK") {
-        Some(books) => Vec::from_slice(alloc, books),
+// The values that are given of a word, none if it is not given.
+fn values_of<'a>(
+    alloc: Global,
+    given: &ArgMatches<'a>,
+    word: &str,
+) -> Result<Vec<&'a str>, AllocError> {
+    match given.get_strs(word) {
+        Some(values) => Vec::from_slice(alloc, values),
         None => Ok(Vec::new(alloc)),
     }
 }
@@ -78,14 +84,24 @@ pub(crate) fn report_of<'a>(
     let book = given.get_str("BOOK");
     Ok(match (command, book) {
         ("report", Some(book)) if given.get_flag("short") => {
-            Some(Report::Short { book, returns })
+            let before = given.get_str("before");
+            Some(Report::Short {
+                book,
+                returns,
+                before,
+            })
         }
         ("report", Some(book)) => Some(Report::Count { book, returns }),
         ("stages", Some(book)) => Some(Report::Stages { book, returns }),
         ("totals", book) => Some(Report::Totals { returns, book }),
         ("compare", _) => {
-            let books = given_books(alloc, given)?;
-            Some(Report::Compare { returns, books })
+            let books = values_of(alloc, given, "BOOK")?;
+            let methods = values_of(alloc, given, "method")?;
+            Some(Report::Compare {
+                returns,
+                books,
+                methods,
+            })
         }
         _ => None,
     })

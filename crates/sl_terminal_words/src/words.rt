@@ -17,8 +17,12 @@ pub enum Given {
     Letter(char),
     /// By its name, with a value that the help calls so.
     Value(Message),
+    /// The same, and beside the flag of this name alone.
+    Beside(Message, &'static str),
     /// By its name, with one of these values.
     Choice(Message, &'static [&'static str]),
+    /// The same, any number of times, and beside the word of this name alone.
+    Choices(Message, &'static [&'static str], &'static str),
 }
 
 /// A word of a command: its name, how it is given, and what it stands for.
@@ -151,12 +155,39 @@ const CSV: Word = Word {
     },
 };
 
+const FILE: Message = Message {
+    english: "FILE",
+    german: "DATEI",
+};
+
+const BEFORE: Word = Word {
+    name: "before",
+    given: Given::Beside(FILE, "short"),
+    help: Message {
+        english: "With --short: an earlier seat table, as `count` writes it, for the changes",
+        german: "Mit --short: eine frühere Sitztabelle, wie `count` sie schreibt, für die Änderungen",
+    },
+};
+
+const METHOD: Word = Word {
+    name: "method",
+    given: Given::Choices(
+        Message {
+            english: "METHOD",
+            german: "VERFAHREN",
+        },
+        &["webster", "jefferson", "adams", "dean", "hill", "hamilton"],
+        "BOOK",
+    ),
+    help: Message {
+        english: "Each rulebook also with this method in all its splits; may be repeated",
+        german: "Jedes Regelwerk auch mit diesem Verfahren in allen Verteilungen; darf mehrfach stehen",
+    },
+};
+
 const NAMES: Word = Word {
     name: "names",
-    given: Given::Value(Message {
-        english: "FILE",
-        german: "DATEI",
-    }),
+    given: Given::Value(FILE),
     help: Message {
         english: "Full names: the path of a CSV file of short and full ones",
         german: "Volle Namen: der Pfad einer CSV-Datei mit kurzen und vollen",
@@ -222,8 +253,13 @@ pub(crate) const OPTIONS: [Word; 2] = [QUIET, LANGUAGE];
 pub(crate) const CODE_OPTIONS: [Word; 3] = [FORCE, QUIET, LANGUAGE];
 
 /// Those of `report`.
-pub(crate) const COUNT_REPORT_OPTIONS: [Word; 8] = [
-    SHORT, MARKDOWN, HTML, JSON, CSV, NAMES, QUIET, LANGUAGE,
+pub(crate) const COUNT_REPORT_OPTIONS: [Word; 9] = [
+    SHORT, BEFORE, MARKDOWN, HTML, JSON, CSV, NAMES, QUIET, LANGUAGE,
+];
+
+/// Those of `compare`.
+pub(crate) const COMPARE_OPTIONS: [Word; 8] = [
+    METHOD, MARKDOWN, HTML, JSON, CSV, NAMES, QUIET, LANGUAGE,
 ];
 
 pub(crate) const REPORT_OPTIONS: [Word; 7] = [MARKDOWN, HTML, JSON, CSV, NAMES, QUIET, LANGUAGE];

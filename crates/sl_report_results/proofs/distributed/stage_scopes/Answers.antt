@@ -4,7 +4,7 @@ use Rattle.std.proofs.lemmas.List.{get_or_default, length-take-le}
 use Rattle.std.proofs.lemmas.Option.{slice_get-get_or}
 use Rattle.sl_report_results.proofs.Before.{columns_long, have_types, well_formed}
 use Rattle.sl_report_results.proofs.Typed.{ok_weaker}
-use Rattle.sl_report_results.specs.StageScopes.{AreStageScopes}
+use Rattle.sl_report_results.specs.StageScopes.{AreStageScopes, name_of}
 use Rattle.sl_report_results.specs.Scopes.{AreScopes}
 use Rattle.sl_report_results.specs.Values.{HasNoSplit, HaveTypes, IsDistributed, IsWellFormed, named_columns, types_before}
 use Rattle.sl_stages.specs.book.Books.{book_of}
@@ -60,5 +60,5 @@ returns-in-Some c =
     (λ found are d.
     subst (λ x. AreStageScopes b e stages columns c.args.counted.now.table.steps n (tree_of x.expr) found.items)
     (c.index.ensures ∙ get_or_default stages n c.index.result.now d c.requires.stage)
-    (inr (what, here, subst (λ steps. AreScopes e n what steps found.items) c.steps.ensures are)))
+    (inr (what, here, subst (λ steps. AreScopes e (name_of stages n) n what steps found.items) c.steps.ensures are)))
     c.scopes_of.ensures

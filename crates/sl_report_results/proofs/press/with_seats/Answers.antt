@@ -1,6 +1,7 @@
-use Rattle.std.proofs.Common.{ap, ◌∙◌}
+use Rattle.std.proofs.Common.{Option, ap, option_map, ℕ, ◌∙◌}
 use Rattle.sl_report_results.specs.Press.{is_pressed, pressed_of}
 use Rattle.sl_report_results.specs.Seats.{party_seats}
+use Rattle.sl_report_results.specs.Parts.{part_of}
 use Rattle.sl_report_results.specs.declared.parts.PartyPart.{PartyPart}
 use Rattle.sl_report_results.specs.declared.press.Pressed.{Pressed}
 use Rattle.sl_report_results.specs.declared.seats.Seats.{Seats}
@@ -12,7 +13,10 @@ loop-party-preserved c =
     let conditions = c.args.setting.now.book.now.eligible.items in
     let e = c.args.setting.now.returns.now in
     let n = c.loop-party.party in
-    let with_both : Seats → PartyPart → Pressed = λ s p. record { party = n; seats = s; part = p } in
-    kept_number (pressed_of conditions c.args.table.now e) is_pressed n _ _ (with_both c.seats_of.result c.part.result) c.loop-party.invariant
+    let earlier = option_map (λ all. all.now) c.args.earlier in
+    let with_all : Seats → PartyPart → Option ℕ → Pressed = λ s p b. record { party = n; seats = s; part = p; before = b } in
+    kept_number (pressed_of conditions c.args.table.now e earlier) is_pressed n _ _ (with_all c.seats_of.result c.part.result c.before_of.result) c.loop-party.invariant
     c.in_ok-push_pressed.ensures
-    (ap (λ s. with_both s c.part.result) c.seats_of.ensures ∙ ap (λ p. with_both (party_seats c.args.table.now e n) p) c.part.ensures)
+    (ap (λ s. with_all s c.part.result c.before_of.result) c.seats_of.ensures
+    ∙ ap (λ p. with_all (party_seats c.args.table.now e n) p c.before_of.result) c.part.ensures
+    ∙ ap (λ b. with_all (party_seats c.args.table.now e n) (part_of conditions e n) b) c.before_of.ensures)

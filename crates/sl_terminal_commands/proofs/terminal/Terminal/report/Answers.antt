@@ -5,7 +5,7 @@ use Rattle.sl_terminal_commands.proofs.Tellings.{ok_wider, silent_warns}
 use Rattle.sl_terminal_commands.proofs.terminal.Terminal.report.Goals as goal
 use Rattle.sl_terminal_commands.specs.Ends.{Ends, IsSilent}
 use Rattle.sl_terminal_commands.specs.Requests.{IsReportEnd}
-use Rattle.sl_terminal_commands.specs.Sums.{IsSummary}
+use Rattle.sl_terminal_commands.specs.Sums.{IsOfComparison, IsSummary}
 use Rattle.sl_terminal_commands.specs.Said.{Says}
 use Rattle.sl_terminal_commands.specs.Tellings.{IsOfWhat}
 
@@ -39,6 +39,17 @@ returns-in-Compare-clause-ends g c =
     )
     c.as_slice.ensures.value c.report_comparison.ensures.ends in
     subst (λ what. Ends (λ ends text. IsReportEnd bytes what (is_some c.args.names) ends) old new c.report_comparison.result) (sym c.in-Compare.is) ends
+
+pub returns-in-Compare-clause-told : goal.returns-in-Compare-clause-told
+returns-in-Compare-clause-told g c =
+    let bytes = g.O.Outside.bytes c.args.self.now.outside in
+    let path = c.in-Compare.returns.now in
+    let says = Says g.E.Sink.contents c.args.self.now c.report_comparison.new.self in
+    let words = λ (all : List (Bor (List ℕ))). map (λ (word : Bor (List ℕ)). word.now) all in
+    let Tells = λ (books methods : List (Bor (List ℕ))). IfOk c.report_comparison.result (λ ends. IsOfComparison bytes path (words books) (words methods) says) in
+    let of_books = subst (λ all. Tells all c.as_slice-methods.result.now) c.as_slice.ensures.value c.report_comparison.ensures.told in
+    let of_both = subst (Tells c.in-Compare.books.items) c.as_slice-methods.ensures.value of_books in
+    subst (λ what. IfOk c.report_comparison.result (λ ends. IsOfWhat bytes what (is_some c.args.names) says)) (sym c.in-Compare.is) of_both
 
 pub returns-in-Totals-clause-quiet : goal.returns-in-Totals-clause-quiet
 returns-in-Totals-clause-quiet g c =

@@ -1,4 +1,5 @@
-use Rattle.std.proofs.Common.{Bor, List, map, subst, ℕ}
+use Rattle.std.proofs.Common.{Bor, IfOk, List, arith, length, map, subst, ◌≤◌, ℕ}
+use Rattle.std.proofs.lemmas.List.{length-map}
 use Rattle.sl_count_inputs.specs.declared.status.Status.{Status}
 use Rattle.sl_terminal_commands.proofs.Deliveries.{ends_wider}
 use Rattle.sl_terminal_commands.proofs.Summaries.{of_compared, summed_all}
@@ -30,11 +31,14 @@ returns-clause-told g c =
     let returns = c.in_ok-returns.returns.read.verdict in
     let books = c.in_ok-books.books.items in
     let says = Says g.E.Sink.contents c.args.self.now c.compare.new.self in
-    ok_wider (λ (ends : Status). IsOfCompared books returns says)
-    (λ (ends : Status). IsOfComparison bytes path (map (λ (word : Bor (List ℕ)). word.now) c.args.books.now) says) c.compare.result
+    let methods = map (λ (word : Bor (List ℕ)). word.now) c.args.methods.now in
+    let given = length c.in_ok-methods.methods.items in
+    let few : given ≤ length methods = omega (arith, c.in_ok-methods.ensures, length-map c.args.methods.now (λ (word : Bor (List ℕ)). word.now)) in
+    ok_wider (λ (ends : Status). IsOfCompared given books returns says)
+    (λ (ends : Status). IsOfComparison bytes path (map (λ (word : Bor (List ℕ)). word.now) c.args.books.now) methods says) c.compare.result
     (
     λ ends of.
-    subst (λ words. IsOfComparison bytes path words says) c.in_ok-books.ensures.words
-    (of_compared bytes path returns c.in_ok-returns.ensures.returns says books c.in_ok-books.ensures.books of)
+    subst (λ words. IsOfComparison bytes path words methods says) c.in_ok-books.ensures.words
+    (of_compared bytes path returns c.in_ok-returns.ensures.returns says books c.in_ok-books.ensures.books methods given few of)
     )
-    c.compare.ensures.told
+    (subst (λ all. IfOk c.compare.result (λ ends. IsOfCompared (length all) books returns says)) c.as_slice-3.ensures.value c.compare.ensures.told)

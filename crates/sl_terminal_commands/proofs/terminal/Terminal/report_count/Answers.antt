@@ -1,4 +1,4 @@
-use Rattle.std.proofs.Common.{is_some}
+use Rattle.std.proofs.Common.{is_some, ◌||◌}
 use Rattle.sl_count_inputs.specs.declared.status.Status.{Status}
 use Rattle.sl_terminal_count.specs.Inputs.{named_input}
 use Rattle.sl_terminal_commands.proofs.Deliveries.{ends_wider}
@@ -13,7 +13,7 @@ use Rattle.sl_terminal_commands.specs.inner.Reports.{IsShownBy, SaysBy}
 pub returns-clause-ends : goal.returns-clause-ends
 returns-clause-ends g c =
     let bytes = g.O.Outside.bytes c.args.self.now.outside in
-    let named = is_some c.args.writing.names in
+    let named = is_some c.args.writing.before || is_some c.args.writing.names in
     let reported = c.in_ok-read.ensures in
     ends_wider (λ ends text. IsShownBy c.in_ok-read.answer ends) (λ ends text. IsReportOf bytes c.args.book.now c.args.returns.now named ends)
     (g.W.Sink.contents c.args.self.now.out) (g.W.Sink.contents c.finish_report.new.self.out) c.finish_report.result
@@ -27,7 +27,7 @@ returns-clause-ends g c =
 pub returns-clause-told : goal.returns-clause-told
 returns-clause-told g c =
     let bytes = g.O.Outside.bytes c.args.self.now.outside in
-    let named = is_some c.args.writing.names in
+    let named = is_some c.args.writing.before || is_some c.args.writing.names in
     let reported = c.in_ok-read.ensures in
     let says = Says g.E.Sink.contents c.args.self.now c.finish_report.new.self in
     ok_wider (λ (ends : Status). SaysBy c.in_ok-read.answer (judged_said c.in_ok-read.read.judged) says)

@@ -1,0 +1,23 @@
+use Rattle.std.proofs.Common.{◌≡◌, Some, sym, ap, subst, ◌∙◌}
+use Rattle.std.specs.Prelude.{slice_get}
+use Rattle.std.proofs.lemmas.Option.{slice_get-get_or}
+use Rattle.sl_report_results.proofs.DrawnLots.{drawn_more, none_more}
+use Rattle.sl_report_results.proofs.drawing.stage_lot.Goals as goal
+use Rattle.sl_report_results.proofs.drawing.stage_lot.Goals.{in-Some+in_ok-push_first, in_default}
+
+pub loop-lot-preserved : goal.loop-lot-preserved
+loop-lot-preserved c =
+    let k = c.loop-lot.lot-index in
+    let lots = c.lots-lot-items.result.now in
+    let lot = c.lot-item.result in
+    let there : slice_get c.args.returns.now.lots k ≡ Some lot =
+    subst (λ ls. slice_get ls k ≡ Some lot) c.lots-lot-items.ensures.lots (slice_get-get_or lots k lot c.loop-lot-test.true ∙ ap Some (sym c.lot-item.is)) in
+    elim c.match-drawn_by.branch [
+      | in-Some+in_ok-push_first w ↦
+          ap (λ v. v.items) w.numbers-is
+          ∙ drawn_more c.args.name.now c.args.votes c.args.items.now c.args.returns.now.lots k lot c.loop-lot.numbers.items w.push_first.new.numbers.items w.in-Some.number there
+          c.loop-lot.invariant (sym c.drawn_by.ensures ∙ w.in-Some.is) w.in_ok-push_first.ensures
+      | in_default w ↦
+          ap (λ v. v.items) w.numbers-is
+          ∙ none_more c.args.name.now c.args.votes c.args.items.now c.args.returns.now.lots k lot c.loop-lot.numbers.items there c.loop-lot.invariant (sym c.drawn_by.ensures ∙ w.in_default.is)
+    ]

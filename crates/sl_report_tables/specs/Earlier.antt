@@ -1,0 +1,53 @@
+-- An earlier seat table that is read beside a count: the text that `count` writes (docs/output.md, section 1; docs/report.md).
+use Rattle.std.specs.Prelude.{◌≡◌, ℕ, Bool, false, true, ◌&&◌, ◌||◌, List, [], ◌∷◌, None, Option, Some, codes, filter_map, is_some, length, map, nat_eq, nat_lt, if◌then◌else◌}
+use Rattle.std.specs.Global.{Vec}
+use Rattle.std.specs.List.{list_all, list_any, slice_split}
+use Rattle.std.specs.Str.Lines.{lines}
+use Rattle.std.specs.Str.{bytes_eq}
+use Rattle.sl_count_inputs.specs.declared.input.Bytes.TheVariants.{Whole}
+use Rattle.sl_count_inputs.specs.declared.input.Bytes.{Bytes}
+use Rattle.sl_report_results.specs.declared.earlier.EarlierParty.{EarlierParty}
+use Rattle.sl_returns.specs.Cells.{is_number, number_of}
+
+-- ---- its text
+
+-- the words of a line, between blanks
+abbrev pub words : List ℕ → List (List ℕ)
+words line = slice_split (λ b. nat_eq b 32) line
+
+-- the name and the seats of a line `party P S D`
+abbrev pub told_party : List (List ℕ) → Option (List ℕ × ℕ)
+told_party (word ∷ name ∷ seats ∷ direct ∷ []) =
+    if bytes_eq word (codes "party") && is_number seats && is_number direct then Some (name, number_of seats) else None
+told_party _ = None
+
+-- a line of another kind, by its first word
+abbrev pub is_other : List (List ℕ) → Bool
+is_other [] = false
+is_other (word ∷ rest) = list_any (bytes_eq word) (codes "total" ∷ codes "list" ∷ codes "vacant" ∷ codes "single" ∷ codes "open" ∷ [])
+
+abbrev pub is_line : List ℕ → Bool
+is_line line = is_some (told_party (words line)) || is_other (words line)
+
+-- a text of such lines
+abbrev pub is_table : List ℕ → Bool
+is_table text = nat_lt 0 (length (lines text)) && list_all is_line (lines text)
+
+-- its parties, by their names and their seats
+abbrev pub table_parties : List ℕ → List (List ℕ × ℕ)
+table_parties text = filter_map (λ line. told_party (words line)) (lines text)
+
+abbrev pub party_told : EarlierParty → List ℕ × ℕ
+party_told p = (p.name.now, p.seats)
+
+-- ---- what is read
+
+-- a text is a seat table, and these are its parties
+abbrev pub IsEarlier : List ℕ → List EarlierParty → Type 0
+IsEarlier text found = (is_table text ≡ true) × (map party_told found ≡ table_parties text)
+
+-- no text was read, and there are none; or these are those of the text
+abbrev pub IsEarlierIn : Option Bytes → Option (Vec EarlierParty) → Type 0
+IsEarlierIn None None = Unit {0}
+IsEarlierIn (Some (Whole text)) (Some found) = IsEarlier text.items found.items
+IsEarlierIn _ _ = ⊥

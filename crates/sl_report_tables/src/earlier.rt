@@ -1,0 +1,108 @@
+//! An earlier seat table, read from the text that `count` wrote.
+
+ghost use Rattle.std.specs.List.{list_all, position};
+ghost use Rattle.std.specs.Prelude.{◌&&◌, ◌++◌, ◌∷◌, [], ◌≡◌, IfErr, IfOk, MatchOption, OnOk, false, filter_map, is_some, length, map, nat_lt, not, option_map, true};
+ghost use Rattle.sl_report_tables.specs.Earlier.{is_line, is_other, is_table, party_told, table_parties, told_party, words};
+
+use sl_ratio::NoMemory;
+use sl_report_results::EarlierParty;
+use sl_returns::spelled_number;
+use std::alloc::Global;
+
+// The first word of a line and what stands after it; nothing of a line of one word.
+#[tactic(auto, using(crate::proofs::EarlierSteps::one_word, crate::proofs::EarlierSteps::first_word))]
+fn cut(line: &str) -> Option<(&str, &str)>
+    ensures { MatchOption result (words line.now ≡ line.now ∷ []) (λ x. words line.now ≡ x.0.now ∷ words x.1.now) }
+{
+    line.split_once(' ')
+}
+
+// The party of a line that tells one.
+#[tactic(auto, using(crate::proofs::EarlierSteps::too_many))]
+fn party_in(line: &str) -> Option<EarlierParty<'_>>
+    ensures { option_map party_told result ≡ told_party (words line.now) }
+{
+    let (word, rest) = cut(line)?;
+    let (name, rest) = cut(rest)?;
+    let (seats, direct) = cut(rest)?;
+    if cut(direct).is_some() || word != "party" {
+        return None;
+    }
+    spelled_number(direct.as_bytes())?;
+    let seats = spelled_number(seats.as_bytes())?;
+    Some(EarlierParty { name, seats })
+}
+
+// Whether the first word of a line is that of a line that tells no party.
+fn is_other(line: &str) -> bool
+    ensures { result ≡ is_other (words line.now) }
+{
+    let first = match cut(line) {
+        Some((first, _)) => first,
+        None => line,
+    };
+    matches!(first, "total" | "list" | "vacant" | "single" | "open")
+}
+
+fn is_line(line: &str) -> bool
+    ensures { result ≡ is_line line.now }
+{
+    party_in(line).is_some() || is_other(line)
+}
+
+// The number of the first line that is none of a seat table.
+fn wrong_line(lines: &[&str]) -> Option<usize>
+    ensures { result ≡ position (λ l. not (is_line l.now)) lines.now }
+{
+    lines.iter().position(
+        |line|
+            ensures { result ≡ not (is_line line.now.now) }
+        { !is_line(*line) },
+    )
+}
+
+// The same, from 0; of no lines 0.
+fn first_wrong(lines: &[&str]) -> Option<usize>
+    ensures { is_some result ≡ not (nat_lt 0 (length lines.now) && list_all (λ l. is_line l.now) lines.now) }
+{
+    if lines.is_empty() {
+        return Some(0);
+    }
+    wrong_line(lines)
+}
+
+// Adds the party that a line tells, if it tells one.
+fn push_party<'a>(found: &mut Vec<EarlierParty<'a>>, line: &'a str) -> Result<(), NoMemory>
+    ensures { OnOk result (map party_told found.new.items ≡ map party_told found.old.items ++ filter_map (λ l. told_party (words l)) (line.now ∷ [])) }
+{
+    if let Some(party) = party_in(line) {
+        found.push(party)?;
+    }
+    Ok(())
+}
+
+// The parties that lines tell.
+fn parties_in<'a>(alloc: Global, lines: &[&'a str]) -> Result<Vec<EarlierParty<'a>>, NoMemory>
+    ensures { IfOk result (λ found. map party_told found.items ≡ filter_map (λ l. told_party (words l.now)) lines.now) }
+{
+    let mut found = Vec::new(alloc);
+    for line in lines {
+        push_party(&mut found, *line)?;
+    }
+    Ok(found)
+}
+
+/// The parties of a seat table in the order of its lines, or the number of the first line, from 1, that is none of one.
+pub fn earlier_parties<'a>(
+    alloc: Global,
+    text: &'a str,
+) -> Result<Result<Vec<EarlierParty<'a>>, usize>, NoMemory>
+    ensures told { IfOk result (λ r. IfOk r (λ found. (is_table text.now ≡ true) × (map party_told found.items ≡ table_parties text.now))) }
+    ensures refused { IfOk result (λ r. IfErr r (λ _. is_table text.now ≡ false)) }
+{
+    let lines: Vec<&str> = text.lines().collect(alloc)?;
+    match first_wrong(lines.as_slice()) {
+        Some(wrong) => Ok(Err(wrong.saturating_add(1))),
+        None => Ok(Ok(parties_in(alloc, lines.as_slice())?)),
+    }
+}

@@ -1,0 +1,140 @@
+//! Rulebooks with other methods than their own, as `compare --method` puts them beside themselves.
+
+ghost use Rattle.std.specs.Prelude.{◌≡◌, ◌≤◌, All, IfOk, length};
+ghost use Rattle.sl_explain_calls.specs.Codes.{subject_of};
+ghost use Rattle.sl_count_inputs.specs.Judging.{tree_verdict};
+ghost use Rattle.sl_ratio.specs.declared.method.Method.{Method};
+ghost use Rattle.sl_report_commands.specs.Methods.{IsTreeVerdictBy};
+ghost use Rattle.sl_stages.specs.book.Books.{book_of};
+ghost use Rattle.sl_terminal_commands.specs.inner.Verdicts.{IsVariedBy, IsVariedOf};
+
+use crate::reports::book_bytes;
+use crate::sums::NamedBook;
+use sl_count_inputs::{ReadBook, Verdict};
+use sl_explain_calls::Explained;
+use sl_explain_texts::Message;
+use sl_ratio::{Method, NoMemory};
+use sl_report_commands::{Language, book_by, method_of, method_word};
+use sl_stages::CheckedBook;
+use std::alloc::Global;
+
+// What is said where a rulebook fails a test with another method than its own.
+const OTHER_METHOD: Message = Message {
+    english: "`--method` put `$` in place of the method here",
+    german: "`--method` hat hier `$` an die Stelle des Verfahrens gesetzt",
+};
+
+/// The methods that words name.
+pub(crate) fn methods_of(alloc: Global, words: &[&str]) -> Result<Vec<Method>, NoMemory>
+    ensures { IfOk result (λ methods. length methods.items ≤ length words.now) }
+{
+    let mut methods = Vec::new(alloc);
+    for word in words {
+        if let Some(method) = method_of(*word) {
+            methods.push(method)?;
+        }
+    }
+    Ok(methods)
+}
+
+// The word of the column of a rulebook: its own, and with another method that of the method after `+`.
+fn column_word(alloc: Global, named: &NamedBook<'_>) -> Result<String, NoMemory> {
+    Ok(match named.method {
+        Some(method) => format!(in alloc; "{}+{}", named.word, method_word(method))?,
+        None => String::from_str(alloc, named.word)?,
+    })
+}
+
+/// The words of the columns of rulebooks.
+pub(crate) fn column_words(
+    alloc: Global,
+    books: &[NamedBook<'_>],
+) -> Result<Vec<String>, NoMemory> {
+    let mut words = Vec::new(alloc);
+    for named in books {
+        words.push(column_word(alloc, named)?)?;
+    }
+    Ok(words)
+}
+
+// A good rulebook with another method.
+fn varied<'a>(
+    alloc: Global,
+    named: &NamedBook<'a>,
+    book: &CheckedBook,
+    method: Method,
+) -> Result<NamedBook<'a>, NoMemory>
+    ensures { IfOk result (λ v. (asked : Method) × IsTreeVerdictBy asked (book_of book.now.book) (tree_verdict v.read.verdict)) }
+{
+    let bytes = book_bytes(named.word, named.read.text.as_slice());
+    let text = Vec::from_slice(alloc, bytes)?;
+    let verdict = book_by(alloc, book, method)?;
+    Ok(NamedBook {
+        word: named.word,
+        method: Some(method),
+        read: ReadBook { text, verdict },
+    })
+}
+
+// A good rulebook with each of these methods.
+fn each_varied<'a>(
+    alloc: Global,
+    named: &NamedBook<'a>,
+    book: &CheckedBook,
+    methods: &[Method],
+) -> Result<Vec<NamedBook<'a>>, NoMemory>
+    ensures { IfOk result (λ found. All (IsVariedBy (length methods.now) book.now) found.items) }
+{
+    let mut found = Vec::new(alloc);
+    for method in methods {
+        found.push(varied(alloc, named, book, *method)?)?;
+    }
+    Ok(found)
+}
+
+/// The good ones of some rulebooks with each of these methods.
+pub(crate) fn all_varied<'a>(
+    alloc: Global,
+    books: &[NamedBook<'a>],
+    methods: &[Method],
+) -> Result<Vec<NamedBook<'a>>, NoMemory>
+    ensures { IfOk result (λ all. All (IsVariedOf (length methods.now) books.now) all.items) }
+{
+    let mut all = Vec::new(alloc);
+    for named in books {
+        if let Verdict::Good(book) = &named.read.verdict {
+            let mut found = each_varied(alloc, named, book, methods)?;
+            all.append(&mut found)?;
+        }
+    }
+    Ok(all)
+}
+
+/// Rulebooks, and others behind them.
+pub(crate) fn behind<'a>(
+    mut books: Vec<NamedBook<'a>>,
+    mut others: Vec<NamedBook<'a>>,
+) -> Result<Vec<NamedBook<'a>>, NoMemory> {
+    books.append(&mut others)?;
+    Ok(books)
+}
+
+/// Says of a rulebook that is refused which method took the place of its own, if one did.
+pub(crate) fn add_method(
+    alloc: Global,
+    language: Language,
+    explained: &mut Explained,
+    method: Option<Method>,
+) -> Result<(), NoMemory>
+    ensures { subject_of explained.new ≡ subject_of explained.old }
+{
+    match method {
+        Some(method) => {
+            let word = method_word(method).as_bytes();
+            explained
+                .explanation
+                .remedy(OTHER_METHOD.text(alloc, language, &[word])?)
+        }
+        None => Ok(()),
+    }
+}
