@@ -50,7 +50,7 @@ static const char *last_words(const char *line, const char *end, int words) {
     return end;
 }
 
-// How many numbers a line of a table has: that of the total, and the two of a party and of a list; none of the lines behind them.
+// How many numbers a line of a table has: that of the total, and the two of a party and of a list; none of the lines after them.
 static int numbers_of(const char *line) {
     return *line == 't' ? 1 : *line == 'p' || *line == 'l' ? 2 : 0;
 }
@@ -73,7 +73,7 @@ static int read_table(const char *text, size_t length, int32_t *seats, size_t wi
     return filled == width;
 }
 
-// Counts a row's returns with a room for the table, which grows where it is too small. The byte behind the table is no digit.
+// Counts a row's returns with a room for the table, which grows where it is too small. The byte after the table is no digit.
 static uint32_t counted(const char *book, size_t book_length, struct room *text, size_t length, struct room *table, size_t *count) {
     for (;;) {
         uint32_t status = page_count(book, book_length, text->bytes, length, table->bytes, table->length, count);

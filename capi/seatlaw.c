@@ -89,6 +89,11 @@ static enum seatlaw_status asked(export call, const struct input *inputs, struct
     return asked_parts(call, inputs, answer, &end, 1);
 }
 
+// capi/build takes them from the table of the library.
+const char *seatlaw_statutes(void) {
+    return STATUTES;
+}
+
 void seatlaw_free(struct seatlaw_text *answer) {
     free(answer->bytes);
     *answer = (struct seatlaw_text){NULL, 0};

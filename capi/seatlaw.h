@@ -75,7 +75,10 @@ enum seatlaw_status seatlaw_stage(const char *book, size_t book_length, const ch
 /* The line of a good rulebook, or its refusal. Proved: `IsCheckOutput`. */
 enum seatlaw_status seatlaw_check(const char *book, size_t book_length, struct seatlaw_text *answer);
 
-/* The text of the statute of that name, without an @: 1956, 1985, 2008, 2013, 2023 or 2023-order. Proved: `IsLawOutput`. */
+/* The names of the statutes of the library, a line each. They are those of the table of which the proved calls are made. */
+const char *seatlaw_statutes(void);
+
+/* The text of the statute of that name, without an @. Proved: `IsLawOutput`. */
 enum seatlaw_status seatlaw_law(const char *name, size_t name_length, struct seatlaw_text *answer);
 
 /* Where the two parts of an answer of `seatlaw_code` end. The file begins with the answer, and the listing where the file ends. */

@@ -66,7 +66,7 @@ def columns_of(line):
 
 
 def is_within(text, line, column):
-    """Whether a line and a column are within a text, or just behind it."""
+    """Whether a line and a column are within a text, or just after it."""
     lines = re.split(rb"\r\n|\n|\r", text)
     if not 1 <= line <= len(lines):
         return False

@@ -80,7 +80,7 @@ def faults_of_files():
         yield ["code", "book", path], "", WRITE, 5
         yield ["code", "bad", path], "", WRITE, 5
         yield ["code", "@1999", path], "", WRITE, 5
-    # a refused book is not made good, nor the rest read, by a reader that fails behind it
+    # a refused book is not made good, nor the rest read, by a reader that fails after it
     yield ["count", "bad", "."], "refused book parse 1 0\n", "", 2
     yield ["stage", "book", ".", "q"], "refused stage q\n", "", 2
     yield ["run", "bad", "."], "refused code file 1 0\n", "", 2

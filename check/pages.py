@@ -13,7 +13,7 @@ The pages are README.md, those of docs/ and those of the examples. What is looke
     commands    what a page shows after a line `$ COMMAND` is what the command writes (page_commands.py)
     tables      the same of the examples of refusals in language.md and returns.md (page_tables.py)
     crates      docs/crates.svg and docs/map.md are as crates.txt has it (crates.py)
-    statutes    the Python package, the R package and the page for a browser name the statutes of the library
+    statutes    the page for a browser has its texts of each statute of the library
 
 The commands are run where there is a PROGRAM, crates/seatlaw/out/seatlaw if none is named, in a folder of their own, except for what they
 write in /tmp. A line is written for each thing that is wrong, and for each command that needs what is not on this machine, as R. The exit
@@ -43,8 +43,8 @@ DESK_FAULTS = (
     ("sl_count_inputs/specs/Books.antt", (("lex_fault", "lex"), ("parse_fault", "parse"), ("checked_fault", "check"))),
     ("sl_count_code_files/specs/CodeFiles.antt", (("code_fault", "file"), ("kinds_fault", "verify"))),
 )
-# What is handed on without the sources, and so names the statutes itself.
-NAMING = ("python/seatlaw/inputs.py", "r/seatlaw/R/seatlaw.R", "web/page/inputs.js")
+# What the page for a browser says of a statute, each under such a word and its name.
+STATUTE_TEXTS = ("law", "method", "elections")
 CODE = re.compile(r"`([^`]+)`")
 LINK = re.compile(r"\[([^\]]*)\]\(([^)\s]+)\)")
 SOURCES = (".rt", ".antt", ".py", ".edit", ".js", ".html", ".sh", ".c", ".h", ".R")
@@ -206,8 +206,8 @@ def unlinked_pages():
 
 
 def wrong_statutes():
-    names = ", ".join('"%s"' % name for name in statutes())
-    return [file + ": not the statutes of the library" for file in NAMING if names not in (TOP / file).read_text()]
+    said = set(re.findall(r'^ +"?([\w-]+)"?: \[', (TOP / "web" / "page" / "texts.js").read_text(), re.M))
+    return ["web/page/texts.js: no " + word + name for name in statutes() for word in STATUTE_TEXTS if word + name not in said]
 
 
 def wrong_picture():

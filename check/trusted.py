@@ -29,7 +29,7 @@ OTHERS = {
 }
 NAMES = re.compile(r"\s*(?:ghost |pub )*use Rattle\.(\w+)\.specs\.([\w.]+)\.\{(.*)\};?$")
 MODULE = re.compile(r"\s*(?:ghost |pub )*use Rattle\.(\w+)\.specs\.([\w.]+)(?: as (\w+))?;?$")
-# Crates whose public functions promise something to whoever uses the program or the page, beside the laws.
+# Crates whose public functions promise something to whoever uses the program or the page, besides the laws.
 PROMISING = {
     CRATES / name
     for name in (

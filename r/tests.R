@@ -67,7 +67,7 @@ for (wrong in list(caught(stage(law("2023"), bund, "x")), caught(law("2021")))) 
 same(caught(report(law("2023"), bund, "a,b,c"))$explained(), NULL)
 
 # Code files: a run is the count of the code's rulebook.
-for (name in c("1956", "1985", "2008", "2013", "2023", "2023-order")) {
+for (name in statutes()) {
   six <- read_returns("examples/six-laws/returns.csv")
   same(run(code(law(name))$file, six), count(law(name), six))
 }

@@ -47,7 +47,7 @@ def short(text):
 
 
 def unlike(name, taken):
-    """A name that is not taken yet: that one, or its beginning with a number behind it."""
+    """A name that is not taken yet: that one, or its beginning with a number after it."""
     number, new = 1, name
     while new in taken:
         number += 1

@@ -1,5 +1,5 @@
 #!/usr/bin/env python3
-"""Lays out the libraries below a crate as the gate proved them, so that a build of that crate proves nothing else anew.
+"""Lays out the libraries below a crate as the gate proved them, so that a build of that crate proves nothing else again.
 
     tools/libraries.py CRATE
 

@@ -18,7 +18,7 @@ class Lost(Exception):
 
 
 class Browser:
-    """A browser with one page. `run` gives what an expression of JavaScript comes to, also behind a promise."""
+    """A browser with one page. `run` gives what an expression of JavaScript comes to, also of a promise."""
 
     def __init__(self):
         self.folder = tempfile.mkdtemp(prefix="seatlaw-browser-")

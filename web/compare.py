@@ -67,7 +67,7 @@ def by_program(program, folder, case):
 
 
 def all_by_program(program, folder, case):
-    """What the program writes by the commands whose texts `show` hands over behind one another, and the exit status of the count."""
+    """What the program writes by the commands whose texts `show` hands over one after another, and the exit status of the count."""
     names = ["--json", "--lang", case.language, *(["--names", "names"] if case.names else [])]
     both = ["--", "book", "returns"]
     parts = (["count", "--lang", case.language, *both], ["steps", *both], ["report", *names, *both], ["stages", *names, *both], ["totals", *names, "--", "returns", "book"])

@@ -28,7 +28,7 @@ static u64 kind_of(u64 bytes) {
     return kind;
 }
 
-// So many bytes behind all that were taken before, or null.
+// So many bytes after all that were taken before, or null.
 static void *more(u64 bytes) {
     if (!next) {
         next = ((u64)__heap_base + 15) & ~(u64)15;

@@ -15,7 +15,7 @@ import sys
 import zlib
 
 sys.path.append(str(pathlib.Path(__file__).resolve().parents[1] / "tools"))
-from repository import TOP  # noqa: E402
+from repository import TOP, statutes  # noqa: E402
 
 PAGE = TOP / "web" / "page"
 ELECTIONS = TOP / "examples" / "elections"
@@ -32,7 +32,7 @@ NEEDED = {"memory", "page_room", "page_free", *("page_" + name for name in CALLS
 
 
 def number(code, at):
-    """A number of a module, in groups of seven bits from the low ones on, and what is behind it."""
+    """A number of a module, in groups of seven bits from the low ones on, and what is after it."""
     value = shift = 0
     while True:
         byte = code[at]
@@ -104,7 +104,8 @@ def main():
     parts = {
         "policy": policy(script, style),
         "style": "<style>%s</style>" % style,
-        "module": '<script type="text/plain" id="module" data-version="%s" data-sum="%s">%s</script>' % (version(), hashlib.sha256(code).hexdigest(), packed(code)),
+        "module": '<script type="text/plain" id="module" data-version="%s" data-statutes="%s" data-sum="%s">%s</script>'
+        % (version(), " ".join(statutes()), hashlib.sha256(code).hexdigest(), packed(code)),
         "worker": '<script type="text/plain" id="worker">%s</script>' % worker,
         "examples": '<script type="text/plain" id="examples">%s</script>' % packed(examples()),
         "scripts": "<script>%s</script>" % script,

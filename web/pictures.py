@@ -43,7 +43,7 @@ class Pictured:
         self.browser.close()
 
     def open(self):
-        """Opens the page anew."""
+        """Opens the page again."""
         self.browser.open(self.page.as_uri())
         self.browser.wait("document.body && document.body.dataset.ready")
 

@@ -144,7 +144,7 @@ class Use(User):
         return self.run("[...document.querySelectorAll('.bad-cell')].map(cell => cell.textContent)")
 
     def refused_cells(self):
-        """The cells that are marked of records behind good ones, with the program's line."""
+        """The cells that are marked of records after good ones, with the program's line."""
         good = "kind,land,party,a,b,c\nland,X,,1,,\nparty,,A,0,,\nlist,X,A,9,9,\nwin,X,A,w1,5,9\n"
         for record, line, wanted in (
             ("land,Y,,1,", "2 6", []), ("seat,X,,1000,,", "3 6", ["seat"]), ("house,X,,0,,", "2 6", ["X"]), ("list,X,A,5,5,2", "2 6", ["2"]),

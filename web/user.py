@@ -93,7 +93,7 @@ class User:
         self.browser.wait("(document.body.dataset.counted || '') !== %s" % json.dumps(before), float(os.environ.get("SEATLAW_PATIENCE", 120)))
 
     def after_shown(self, act):
-        """Does something after which the page shows its results anew."""
+        """Does something after which the page shows its results again."""
         before = self.run("document.body.dataset.shown || ''")
         act()
         self.browser.wait("(document.body.dataset.shown || '') !== %s" % json.dumps(before))

@@ -102,7 +102,7 @@ def by_program(program, folder, case):
 
 
 def all_by_program(program, folder, case):
-    """What the program writes by the commands whose texts `show` hands over behind one another, and the exit status of the count."""
+    """What the program writes by the commands whose texts `show` hands over one after another, and the exit status of the count."""
     json, both = json_words(case.language, case.names), ["--", "book", "returns"]
     words = (["count", "--lang", case.language, *both], ["steps", *both], ["report", *json, *both], ["stages", *json, *both], ["totals", *json, "--", "returns", "book"])
     ran = [run(program, folder, each) for each in words]

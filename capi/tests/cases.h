@@ -1,4 +1,4 @@
-// Cases of a file: a line `NAME LENGTH ..` with a length for each input, and behind it the bytes of the inputs.
+// Cases of a file: a line `NAME LENGTH ..` with a length for each input, and after it the bytes of the inputs.
 #ifndef SEATLAW_TESTS_CASES_H
 #define SEATLAW_TESTS_CASES_H
 

@@ -1,4 +1,4 @@
-"""Cases of code files and of the codes of faults: calls of the library that the page of web/ does not have, beside those of web/cases.py.
+"""Cases of code files and of the codes of faults: calls of the library that the page of web/ does not have, in addition to those of web/cases.py.
 
 A case is one of web/cases.py: of `code`, and of `code_file` for the file alone, its book is a rulebook; of `run` and `explain_run` the bytes of a code
 file; and of `explain_code` its name is the word that is asked for.

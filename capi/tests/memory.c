@@ -1,4 +1,4 @@
-// Lets the first, the second, .. request for memory of each call fail, and all behind it, or that one alone: the call must answer that there was
+// Lets the first, the second, .. request for memory of each call fail, and all after it, or that one alone: the call must answer that there was
 // no memory, or what it answers with memory, and give all back. Linked with --wrap for the functions of the heap.
 #include "cases.h"
 

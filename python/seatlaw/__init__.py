@@ -6,9 +6,10 @@
 >>> seatlaw.count(book, returns)
 <Table of 5 seats: Reds 2, Blues 1, Greens 1>
 """
+from ._library import STATUTES
 from .calls import Shown, check, code, compare, count, explain, law, report, run, show, stage, stage_names, stages, steps, totals
 from .errors import Explanation, LegalFault, Lot, OutOfBudget, OutOfMemory, Place, Refused, SeatlawError, Span
-from .inputs import STATUTES, Code, Instruction, Land, ListVotes, Party, Returns, Rulebook, Winner
+from .inputs import Code, Instruction, Land, ListVotes, Party, Returns, Rulebook, Winner
 from .reports import Comparison, Report, Totals
 from .tables import BookLine, Column, ListSeats, PartySeats, Steps, Table
 

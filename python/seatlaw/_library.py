@@ -79,6 +79,12 @@ counts.argtypes = [
 counts.restype = ctypes.c_int
 
 
+# The names of the statutes of the library, in its order.
+_statutes = _library.seatlaw_statutes
+_statutes.argtypes, _statutes.restype = [], ctypes.c_char_p
+STATUTES: Tuple[str, ...] = tuple(_statutes().decode().split())
+
+
 def _answered(function, inputs: Tuple[bytes, ...], *more: ctypes.Structure) -> Tuple[int, bytes]:
     answer = Text()
     words: List[Union[bytes, int]] = []

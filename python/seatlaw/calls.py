@@ -6,9 +6,9 @@ from typing import Callable, Dict, Iterable, Optional, Tuple, Union
 
 from . import reports, tables
 from . import _library
-from ._library import DONE, LEGAL_FAULT, NO_MEMORY, NO_NAME, OUT_OF_BUDGET, REFUSED, ask
+from ._library import DONE, LEGAL_FAULT, NO_MEMORY, NO_NAME, OUT_OF_BUDGET, REFUSED, STATUTES, ask
 from .errors import Explain, Explanation, LegalFault, OutOfBudget, OutOfMemory, Refused, SeatlawError, Unexplained
-from .inputs import STATUTES, Book, Code, Returns, rulebook
+from .inputs import Book, Code, Returns, rulebook
 
 Names = Union[str, bytes, None]  # a file of full names: records of a short name, a comma and the full one
 

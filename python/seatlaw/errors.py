@@ -20,7 +20,7 @@ class Place(NamedTuple):
 
 
 class Span(NamedTuple):
-    """A place in an input, and the offsets of its first byte and of the one behind its last."""
+    """A place in an input, and the offsets of its first byte and of the one after its last."""
 
     line: int
     column: int

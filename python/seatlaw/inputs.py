@@ -11,7 +11,6 @@ from .errors import Lot
 from .frames import Frame, Row, frame_of, rows_of
 
 HEADERS = ("kind", "kind2")
-STATUTES = ("1956", "1985", "2008", "2013", "2023", "2023-order")
 
 
 @dataclasses.dataclass(frozen=True)
@@ -23,7 +22,7 @@ class Rulebook:
 
     @classmethod
     def statute(cls, name: str) -> "Rulebook":
-        """A statute of the library: 1956, 1985, 2008, 2013, 2023 or 2023-order."""
+        """A statute of the library, one of `STATUTES`."""
         from . import calls
 
         return cls(calls.law(name).encode(), "@" + name)
@@ -206,7 +205,7 @@ class Returns:
 
     @property
     def records(self) -> Tuple[Tuple[str, ...], ...]:
-        """The cells of the records behind the header."""
+        """The cells of the records after the header."""
         return self.all_records[1:]
 
     def rows(self, kind: str) -> tuple:
@@ -244,12 +243,12 @@ class Returns:
         return frame_of(self.rows(kind), KINDS[kind])
 
     def with_records(self, records: Iterable[Sequence[str]]) -> "Returns":
-        """These returns with records of six cells behind them."""
+        """These returns with records of six cells after them."""
         end = b"" if self.data.endswith((b"\n", b"\r")) or not self.data else b"\n"
         return Returns(self.data + end + _written(records))
 
     def with_lots(self, lots: Iterable[Lot]) -> "Returns":
-        """These returns with lots behind them, in the order in which they were drawn."""
+        """These returns with lots after them, in the order in which they were drawn."""
         return self.with_records(_record("lot", lot._asdict()) for lot in lots)
 
     def with_house(self, seats: int) -> "Returns":

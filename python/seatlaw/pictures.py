@@ -59,7 +59,7 @@ def house(table: Table, chosen: Dict[str, str]) -> str:
 
 
 def _cell(value: Any) -> str:
-    """A cell of a table: nothing stands for None, names stand behind one another, and numbers at the right."""
+    """A cell of a table: nothing stands for None, names stand one after another, and numbers at the right."""
     value = " ".join(value) if isinstance(value, tuple) else value
     side = "left" if isinstance(value, str) else "right"
     return '<td style="text-align:%s">%s</td>' % (side, "" if value is None else html.escape(str(value)))

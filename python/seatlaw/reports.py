@@ -215,7 +215,7 @@ class Input(NamedTuple):
 
 @dataclasses.dataclass(frozen=True)
 class Heading:
-    """What JSON says beside its tables: `schema` is the version of its form, `program` that of the library, and `fault` the line of a fault.
+    """What JSON says in addition to its tables: `schema` is the version of its form, `program` that of the library, and `fault` the line of a fault.
 
     >>> import seatlaw
     >>> made = seatlaw.totals(seatlaw.Returns.from_file("examples/covered/returns.csv")).heading

@@ -124,7 +124,7 @@ SCOPES = {"all": 1, "land": 2, "party": 2, "list": 3}
 
 
 def _scoped(line: str) -> Tuple[str, str, List[str]]:
-    """The stage, the scope, and the words behind them."""
+    """The stage, the scope, and the words after them."""
     words = line.split()[1:]
     end = 1 + SCOPES[words[1]]
     return words[0], " ".join(words[1:end]), words[end:]

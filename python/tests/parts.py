@@ -51,7 +51,7 @@ def told(snippet, names):
 
 
 def wrong_scripts(page):
-    """The scripts of a page that write something else than is shown, run one behind the other."""
+    """The scripts of a page that write something else than is shown, run one after the other."""
     from snippets import snippets
 
     names = {"__name__": "page"}

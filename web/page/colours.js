@@ -5,7 +5,7 @@ const colours = (() => {
     BSW: "#7d2650", PDS: "#8f1f5f", REDS: "#c62828", BLUES: "#1565c0", GREENS: "#2e7d32",
   };
   const OTHERS = ["#4e79a7", "#b07a00", "#8c564b", "#5f8f3a", "#b04a9a", "#2f8f8f", "#c2571a", "#5b5bb5", "#7a7a7a", "#9a3b3b", "#3b7a57", "#8a6d1f"];
-  // How parties of the Bundestag sit, from left to right, the unions together; others stand behind them in the order of the returns.
+  // How parties of the Bundestag sit, from left to right, the unions together; others stand after them in the order of the returns.
   const SEATED = ["LINKE", "PDS", "BSW", "SPD", "GRUENE", "SSW", "FDP", "CSU", "CDU", "AFD"];
   // Lines within a square of eight.
   const PATTERNS = [

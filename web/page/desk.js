@@ -6,7 +6,7 @@ const ROOM_FOR_BYTE = 32;
 const LEAST_ROOM = 1 << 20;
 const FIRST_ROOM = 1 << 27;
 const MOST_ROOM = 1 << 29;
-// How many parts the text of `show` has, behind one another; any other call has one.
+// How many parts the text of `show` has, one after another; any other call has one.
 const SHOWN_PARTS = 6;
 // The pages of 64 KiB that a memory has at first: growing is slow where a browser copies the memory for it, and a page that is not used costs nothing.
 const FIRST_PAGES = 6144n;
@@ -76,7 +76,7 @@ class Desk {
     return { status, bytes, ends };
   }
 
-  // What a call answers: its status, its text, and where its parts end. After an error, and after a call that took much memory, the module begins anew.
+  // What a call answers: its status, its text, and where its parts end. After an error, and after a call that took much memory, the module starts again.
   call(name, inputs) {
     try {
       if (!this.calls) this.begin();

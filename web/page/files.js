@@ -12,7 +12,7 @@ const files = (() => {
     }
   };
 
-  // The offset of the first word of a rulebook's text, behind blanks and comments.
+  // The offset of the first word of a rulebook's text, after blanks and comments.
   const firstWord = text => /^(\s|#[^\n]*(\n|$))*/.exec(text)[0].length;
 
   // What a text is by the refusals alone, where the desk takes it as nothing: a rulebook whose first words are good, returns with a good header, or else

@@ -1,5 +1,4 @@
 // What the user gives: statutes, a rulebook, returns and names; and how these are shown.
-const LAWS = ["1956", "1985", "2008", "2013", "2023", "2023-order"];
 
 const TEMPLATE = `kind,land,party,a,b,c
 house,,,10,,
@@ -48,7 +47,7 @@ const inputs = (() => {
 
   // Asks the desk for the texts of the library.
   const readLaws = async () => {
-    for (const name of LAWS) {
+    for (const name of byId("module").dataset.statutes.split(" ")) {
       const { bytes } = await calls.ask("law", encoded(name));
       state.laws.push({ name, bytes, text: decoded(bytes) });
     }

@@ -64,7 +64,7 @@ const page = (() => {
     return isStill() ? { book, result, compared } : null;
   };
 
-  // Counts anew; a later count takes the place of one that is under way. Whatever goes wrong is told, and the count is over. Of returns that were just
+  // Counts again; a later count takes the place of one that is under way. Whatever goes wrong is told, and the count is over. Of returns that were just
   // given the result comes into sight.
   const recount = async (isGiven = false) => {
     const turn = ++state.turn;

@@ -2,7 +2,7 @@
 const outputs = (() => {
   const linesOf = text => text.split("\n").slice(0, -1);
 
-  // The words of a scope at the begin of a list, and the words behind it.
+  // The words of a scope at the begin of a list, and the words after it.
   const scopeOf = words => {
     const length = { all: 1, land: 2, party: 2, list: 3 }[words[0]];
     return [words.slice(0, length), words.slice(length)];
@@ -34,7 +34,7 @@ const outputs = (() => {
     return { stage: words[0], scope, last: rest[0], next: rest[1], lot: rest[2] === "lot" };
   };
 
-  // The steps of the seats, the bounds, and the table behind them.
+  // The steps of the seats, the bounds, and the table after them.
   const stepsOf = text => {
     const lines = linesOf(text);
     const seats = [], bounds = [], table = [];
@@ -64,7 +64,7 @@ const outputs = (() => {
   // The number of the record that a line `refused returns` names, if it names one.
   const rowOf = line => Number(line.split(" ")[3]) || 0;
 
-  // A fraction NUM/DEN in decimals, cut behind the second place.
+  // A fraction NUM/DEN in decimals, cut after the second place.
   const cut = fraction => {
     const [num, den] = fraction.split("/").map(BigInt);
     const digits = ((num * 100n) / den).toString().padStart(3, "0");
@@ -74,7 +74,7 @@ const outputs = (() => {
   // What a command that reports has written as JSON; where the call failed, a report without anything.
   const reportOf = ({ status, bytes }) => (status < NO_MEMORY ? JSON.parse(decoded(bytes)) : { status, fault: null, explanation: null, tables: null });
 
-  // The tables of a report; nothing where it did not come to them.
+  // The tables of a report; nothing where it did not reach them.
   const tablesOf = ({ status, tables }) => (status === 0 ? tables : null);
 
   return { linesOf, tableOf, stepsOf, columnOf, faultOf, rowOf, cut, reportOf, tablesOf };

@@ -46,7 +46,7 @@ const drawn = () =>
 
 const button = (key, press, attributes) => el("button", { type: "button", "data-key": key, onclick: press, ...attributes }, t(key));
 
-// Which parts are open and what is chosen in them, by their keys: it outlives that the parts are made anew. In a page that is saved all of them are filled.
+// Which parts are open and what is chosen in them, by their keys: it outlives that the parts are made again. In a page that is saved all of them are filled.
 const kept = { open: new Map(), chosen: new Map(), isWhole: false };
 
 // A part that is filled when it is first opened.
@@ -82,7 +82,7 @@ const chooser = (key, label, options, partOf) => {
   return [el("label", {}, label, " ", select), place];
 };
 
-// What gives the focus back to what has the key of the part of the page that has it now, when that part was made anew.
+// What gives the focus back to what has the key of the part of the page that has it now, when that part was made again.
 const heldFocus = root => {
   const active = document.activeElement;
   const key = active && root.contains(active) ? active.dataset.key : null;
@@ -95,7 +95,7 @@ const heldFocus = root => {
   };
 };
 
-// Makes a part of the page anew, and keeps the focus.
+// Makes a part of the page again, and keeps the focus.
 const renewed = (root, ...children) => {
   const focusAgain = heldFocus(root);
   shown(root, ...children);

@@ -1,6 +1,6 @@
-// What is shown of a count: the house, the tables, the parts behind them, and the words where there are no seats.
+// What is shown of a count: the house, the tables, the parts after them, and the words where there are no seats.
 const results = (() => {
-  // What the page does when something in a result is pressed: it counts anew, shows anew, or takes the changes back.
+  // What the page does when something in a result is pressed: it counts again, shows again, or takes the changes back.
   const acts = { recount: null, show: null, reset: null, change: null };
 
   // Who won a constituency of the returns that were counted.
@@ -33,7 +33,7 @@ const results = (() => {
       result.error ? el("p", {}, el("code", {}, result.error)) : null, el("p", { class: "controls" }, button("again", () => acts.recount())));
   };
 
-  // The picture of the house with the parties in their order; a seat that is chosen shows its steps, and stays chosen when all is made anew.
+  // The picture of the house with the parties in their order; a seat that is chosen shows its steps, and stays chosen when all is made again.
   const pictured = function* (result) {
     const detail = el("div", { class: "seat-steps", "aria-live": "polite" });
     const winnerOf = winnersOf(result);

@@ -14,7 +14,7 @@ const tables = (() => {
   // A party by its colour and its full name, on a phone with the short one before it.
   const named = party => el("span", { class: "named" }, swatch(party), el("bdi", {}, party ? names.party(party) : t("independent")));
 
-  // A share in percent, cut behind the second digit; numbers are below 2^53.
+  // A share in percent, cut after the second digit; numbers are below 2^53.
   const percent = (part, whole) => {
     if (!whole) return "–";
     const cut = Math.floor((part * 10000) / whole);

@@ -44,7 +44,7 @@ pub record MakesBlock (time : Election → ℕ) (most : ℕ) (Stands : CountingC
   pub achieves : (code : CountingCode) (e : Election) (state : State) → Stands code → IsElection e → Begins code e state →
       Achieves code e tree state (Does code e state) (Ends code e state)
 
--- the declaration passes whatever comes to it
+-- the declaration passes whatever reaches it
 passes_first : (code : CountingCode) (comes : Option Kinds) (rest : List Instr) (k : Kinds) → ArePassed (context_of code) (Some start_kinds) rest (Some k)
     → PassesOn code comes (At start_kinds ∷ rest)
 passes_first code None rest k h = record { passed = h.passed; kinds = k; leaves = h.after }

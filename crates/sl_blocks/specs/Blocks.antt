@@ -22,7 +22,7 @@ use Rattle.sl_blocks.specs.declared.blocks.TheConstants.{MAX_BLOCK_INSTRS}
 abbrev pub HasSlotsOf : List Shape → CountingCode → Type 0
 HasSlotsOf shapes code = (slot : ℕ) (s : Shape) → slice_get shapes slot ≡ Some s → slice_get code.slots slot ≡ Some s
 
--- where these kinds come to them the instructions pass the verifier's tests, and some kinds come to the place after
+-- where these kinds reach them the instructions pass the verifier's tests, and some kinds reach the place after
 pub record PassesOn (code : CountingCode) (comes : Option Kinds) (is : List Instr) : Type 0 where
   pub passed : are_passed (context_of code) comes is ≡ true
   pub kinds : Kinds

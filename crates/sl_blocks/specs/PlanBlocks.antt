@@ -20,7 +20,7 @@ IsSaid (Onward s) = Unit {0}
 IsSaid (Final x) = Unit {0}
 IsSaid Unsaid = ⊥
 
--- where something is said of the plan, the block comes to the state that the plan says, or to its end
+-- where something is said of the plan, the block reaches the state that the plan says, or its end
 abbrev pub IsPlanBlock : (CountingCode → Type 0) → Tree → List Instr → List Instr → Type 0
 IsPlanBlock Stands tree before after =
     IsBlock (λ e. cost e tree + 1) (size_of tree + 1) Stands (λ code e s. IsSaid (does code e tree s)) (λ code e s t. does code e tree s ≡ Onward t)

@@ -87,7 +87,7 @@ pub fn given_of(block: &Block) -> [Instr; 23]
     } = block.job;
     let kind = kind_of(block.form);
     let divisor = divisor_of(block.method);
-    // the weights of a method that does not round are not told
+    // the weights of a method that does not round are not recorded
     let rounding = Rounding::of(divisor).unwrap_or(Rounding::Webster);
     let cap = block.cap.unwrap_or(0) as u64;
     [

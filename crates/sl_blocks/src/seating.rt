@@ -1,4 +1,4 @@
-//! The blocks of the last clause beside a covering (docs/compiler.md, section 6).
+//! The blocks of the last clause besides a covering (docs/compiler.md, section 6).
 
 ghost use Rattle.std.specs.Prelude.{◌≡◌, [], ◌∷◌, IfOk, OnErr};
 ghost use Rattle.sl_code_instructions.specs.declared.instr.Instr.TheVariants.{Input as Reads};

@@ -1,4 +1,4 @@
--- When a state is one of which the verifier's kinds are known, and when a run may come to it (docs/machine.md, section 5).
+-- When a state is one of which the verifier's kinds are known, and when a run may reach it (docs/machine.md, section 5).
 use Rattle.std.specs.Prelude.{◌≡◌, ◌≢◌, ℕ, ◌<◌, IsTrue, IsSome, [], length, Option, Some, None, slice_get, ⊤}
 use Rattle.sl_stages.specs.returns.Election.{Election, IsElection}
 use Rattle.sl_code_instructions.specs.declared.instr.Instr.{Instr}
@@ -41,7 +41,7 @@ pub record Agrees (k : Kinds) (s : State) : Type 0 where
   pub cursors : AreSet k.cursors s.party s.land s.win
   pub table : HasTable k.table s.table
 
--- a run of the code for the election may come to the place in the state: the code is well kinded, an instruction stands there, and the
+-- a run of the code for the election may reach the place in the state: the code is well kinded, an instruction stands there, and the
 -- state is one of which its kinds are known, and all in it fits
 pub record IsSafe (c : CountingCode) (e : Election) (place : ℕ) (s : State) : Type 0 where
   pub code : IsWellKinded c

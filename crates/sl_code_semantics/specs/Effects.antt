@@ -75,7 +75,7 @@ sets_house r (Some seats) s = sets r seats s
 abbrev pub from_lists : Election → (Option ListVotes → ℕ) → ℕ → ℕ
 from_lists e f place = if nat_lt place (lands_of e * parties_of e) then f (list_at e (place / parties_of e) (place % parties_of e)) else 0
 
--- the number of names left on a list, and the greatest number where it is not told
+-- the number of names left on a list, and the greatest number where it is not given
 abbrev pub names_or_most : Option ListVotes → ℕ
 names_or_most votes = told (slate_in votes) where
   told : Option ℕ → ℕ

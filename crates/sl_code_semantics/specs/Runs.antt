@@ -11,7 +11,7 @@ use Rattle.sl_code_semantics.specs.Effects.{Effect, Goes, Jumps, Ends, NoCase, e
 
 -- ---- one step
 
--- where a step comes to: a place of the code and a state there, the end of the run, or nowhere
+-- where a step leads to: a place of the code and a state there, the end of the run, or nowhere
 pub data Step : Type 0 where
   To : (place : ℕ) (state : State) → Step
   Over : (end : End) → Step

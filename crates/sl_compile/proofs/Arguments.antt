@@ -36,7 +36,7 @@ has_as r is h = subst (λ (t : ColumnType). IfOk r (λ has. has ≡ t)) is h
 
 -- ---- slots
 
--- the slot that is told of an expression is that of the same expression
+-- the slot that is given for an expression is that of the same expression
 pub slot_at : (types : List Column) (level slot : ℕ) (of : ColumnType) (d b : Expr) → d ≡ b → (of ≡ type_of types (tree_of d) → slot ≡ slot_of types level (tree_of d))
     → of ≡ type_of types (tree_of b) → slot ≡ slot_of types level (tree_of b)
 slot_at types level slot of d b same h is =

@@ -35,7 +35,7 @@ use Rattle.sl_compile.proofs.rulebooks.Rows.{no_blocks, blocks_in}
 
 -- ---- slots
 
--- each passing column is there, as in a book without stages
+-- each scratch column is there, as in a book without stages
 pub passing_there : (level : ℕ) (s : Shape) → level ≤ MAX_DEPTH → slice_get low_shapes (passing level s) ≡ Some s
 passing_there level s low = passing_in_book [] level s low
 

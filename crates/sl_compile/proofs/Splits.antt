@@ -154,7 +154,7 @@ module _ {types : List Column} (stage : ℕ) {level : ℕ} {e : Expr} {at : ℕ}
       let deep : depth_of (tree_of e) ≡ 1 + max (max (depth_of (tree_of x)) (depth_of (tree_of y))) (depth_of (tree_of m.value)) = ap depth_of tree in
       over_minima deep (ap (type_of types) tree) (ap (pieces types stage level) tree) (growth_fits x_is y_is fits is).split
 
--- ---- the slots of the arguments, as they are told
+-- ---- the slots of the arguments, as they are given
 
 -- of minima, where there are some, and where there are none
 pub some_slot : (types : List Column) (level slot : ℕ) (minima : Option (Box Expr)) (m : Box Expr) (o : Option ℕ) → o ≡ Some slot → minima ≡ Some m

@@ -77,7 +77,7 @@ base_there code types at (base.Stage n) slots pass =
 
 -- ---- columns
 
--- a copy into a passing column, of a column that is there
+-- a copy into a scratch column, of a column that is there
 pub copy_there : (types : List Column) (n level : ℕ) {of t : ColumnType} {from slot : ℕ} → of ≡ t → from ≡ slot → level ≤ MAX_DEPTH
     → ((code : CountingCode) → HasBookSlots code types → slice_get code.slots slot ≡ Some t.shape) → (code : CountingCode) → HasSoFar types n code
     → HasCopy of.shape from (passing level of.shape) code

@@ -34,7 +34,7 @@ abbrev pub code_stages : ℕ → List StageTree → List CodeStage
 code_stages k [] = []
 code_stages k (s ∷ ss) = record { name = s.name; slot = stage_slot k } ∷ code_stages (k + 1) ss
 
--- after the slots of facts and of the last clause a passing column of each shape for each level
+-- after the slots of facts and of the last clause a scratch column of each shape for each level
 abbrev pub level_shapes : List Shape
 level_shapes = shape.One ∷ (shape.Party ∷ (shape.Land ∷ (shape.List ∷ [])))
 

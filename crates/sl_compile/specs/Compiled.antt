@@ -21,7 +21,7 @@ pub record IsHeld (e : Election) (h : Held) (t : SeatTable) : Type 0 where
   pub same : SameTable t (held_table e h)
   pub once : RecordsComeOnce (held_table e h)
 
--- the run of a code that ends so comes to the outcome
+-- the run of a code that ends so yields the outcome
 abbrev pub ComesTo : CountingCode → Election → Ending → Outcome → Type 0
 ComesTo c e (Ended (Halted base vacant s)) (outcome.Table t) = IsHeld e (held_of c e base vacant s) t
 ComesTo c e (Ended (Faulted f)) (outcome.Fault g) = f ≡ g
@@ -39,7 +39,7 @@ abbrev pub ending_by : BookTree → CountingCode → Election → Ending
 ending_by b c e = ending c e (budget_of (length b.stages) e)
 
 -- the code has the stages of the book, in order, and the slot of each is there and has the shape of the stage's column. On all returns its run
--- ends within the budget; it comes to an outcome exactly if the book means that outcome; and where it is done, the columns of the stages stand in
+-- ends within the budget; it yields an outcome exactly if the book means that outcome; and where it is done, the columns of the stages stand in
 -- their slots
 pub record IsCompiled (b : BookTree) (c : CountingCode) : Type 0 where
   pub stages : map (λ s. s.name) c.stages ≡ map (λ s. s.name) b.stages

@@ -1,4 +1,4 @@
-//! The own blocks of expressions, whose arguments are in columns of facts or in passing ones (docs/compiler.md, section 4). Each leaves its
+//! The own blocks of expressions, whose arguments are in columns of facts or in scratch ones (docs/compiler.md, section 4). Each leaves its
 //! column in the passing one of its shape, and says what the column has.
 
 ghost use Rattle.std.specs.Prelude.{◌≡◌, ◌+◌, ◌≤◌, [], ◌∷◌, true, IfOk, IsSome};

@@ -12,10 +12,10 @@ use std::alloc::Global;
 
 pub const WINNERS: u8 = FIRST_FACT + Fact::Winners as u8;
 
-/// The seats of the lists in the end: the passing column of lists on the first level.
+/// The seats of the lists in the end: the scratch column of lists on the first level.
 pub const FINAL_SEATS: u8 = FIRST_PASSING_SLOT + 3;
 
-/// The shapes of the passing columns of a level.
+/// The shapes of the scratch columns of a level.
 const LEVEL: [Shape; 4] = [One, Party, Land, List];
 
 /// Those of the slots after the facts: two to work in, and three for the last clause.
@@ -29,7 +29,7 @@ pub fn fact_slot(fact: Fact) -> u8
     FIRST_FACT + fact.number()
 }
 
-/// The passing column of that shape on that level.
+/// The scratch column of that shape on that level.
 #[tactic(auto, using(sl_compile_pieces::proofs::exprs::Places::number_few))]
 pub fn passing(level: u8, shape: Shape) -> u8
     requires { level ≤ MAX_DEPTH }

@@ -1,5 +1,5 @@
 //! The registers of the plans of a rulebook, for code and definitions alike: those of blocks, of which each has one use, and, from
-//! `OWN` on, those of columns and facts beside `TOTAL`. The last register is that of all plans, `sl_compile_plans::ONES`.
+//! `OWN` on, those of columns and facts besides `TOTAL`. The last register is that of all plans, `sl_compile_plans::ONES`.
 
 /// The seats of the scope.
 pub const AMOUNT: u8 = 0;
@@ -27,7 +27,7 @@ pub const PEERS: u8 = 10;
 pub const IN_BATCH: u8 = 11;
 /// The step of the seats of a batch; before seats are awarded, the remainder of an entry.
 pub const STEP: u8 = 12;
-/// For numbers in passing.
+/// For scratch numbers.
 pub const FIRST_PASSING: u8 = 13;
 /// For a second such number.
 pub const SECOND_PASSING: u8 = 14;

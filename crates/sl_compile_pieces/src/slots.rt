@@ -16,9 +16,9 @@ pub const PAIR_NUMBERS: u8 = NUMBERS + 1;
 pub const NAMES_LEFT: u8 = PAIR_NUMBERS + 1;
 /// The vacant seats of the lists.
 pub const VACANT_SEATS: u8 = NAMES_LEFT + 1;
-/// The first passing column.
+/// The first scratch column.
 pub const FIRST_PASSING_SLOT: u8 = VACANT_SEATS + 1;
-/// Levels of passing columns: a split or a growth needs one more than the expression has.
+/// Levels of scratch columns: a split or a growth needs one more than the expression has.
 pub const LEVELS: u8 = MAX_DEPTH as u8 + 1;
-/// The column of the first stage, after a passing column of each shape for each level.
+/// The column of the first stage, after a scratch column of each shape for each level.
 pub const FIRST_STAGE_SLOT: u8 = FIRST_PASSING_SLOT + 4 * LEVELS;

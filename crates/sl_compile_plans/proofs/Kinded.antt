@@ -154,7 +154,7 @@ module _ (code : CountingCode) (slots : ℕ → Option Shape) (stages : ℕ) whe
       ends_there all k i (is_none (declared_by i) (not_so _ parts.1)) needs.0 (leads_nowhere (carried k i) (target_of i) (is_none (target_of i) (not_so _ parts.0)))
       (Some d) (At d ∷ []) over.0 (declares all None (Some d) d [] refl needs.1 (nothing all (Some d)))
 
-  -- what implies a declaration without positive registers, and what this implies beside, implies both
+  -- what implies a declaration without positive registers, and what this implies besides, implies both
   implied_on : (have mid need : Kinds) → have.cursors ≡ mid.cursors → have.table ≡ mid.table → mid.positive ≡ need.positive → implies have mid ≡ true → implies mid need ≡ true → implies have need ≡ true
   implied_on have mid need cursors table positive first second =
       let one = and_parts (includes have.positive mid.positive && covers have.cursors mid.cursors) (fits_table have.table mid.table) first in

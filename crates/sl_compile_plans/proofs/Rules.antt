@@ -68,7 +68,7 @@ line_goes {c = c} {e = e} {i = i} {is = is} {s = s} {Q = Q} {E = E} {t = t} at r
 
 -- ---- lines of which each instruction goes on: what they do is found by evaluation
 
--- the plan comes to that state
+-- the plan reaches that state
 pub ends_in : {c : CountingCode} {e : Election} {a : Tree} {s t : State} {Q : State → Type 0} {E : End → Type 0} → does c e a s ≡ Onward t → Q t → Achieves c e a s Q E
 ends_in {c = c} {e = e} {a = a} {s = s} {t = t} {Q = Q} {E = E} at h = record { meets = meets_is (does c e a s) (Onward t) Q E at h }
 
@@ -85,7 +85,7 @@ pub then_achieves : {c : CountingCode} {e : Election} {a b : Tree} {s : State} {
     → Achieves c e a s Q E → ((t : State) → Q t → Achieves c e b t R E) → Achieves c e (Then a b) s R E
 then_achieves {c = c} {e = e} {a = a} {b = b} {s = s} {Q = Q} {R = R} {E = E} first rest = record { meets = meets_then (does c e a s) (does c e b) Q R E first.meets (λ t h. (rest t h).meets) }
 
--- where the first plan comes to that state
+-- where the first plan reaches that state
 pub then_at : {c : CountingCode} {e : Election} {a b : Tree} {s w : State} {Q : State → Type 0} {E : End → Type 0} → Achieves c e a s (λ t. t ≡ w) E → Achieves c e b w Q E → Achieves c e (Then a b) s Q E
 then_at first rest = then_achieves first (λ t is. achieves_from is rest)
 

@@ -53,7 +53,7 @@ module _ (x : Context) where
   is_fine_line k [] = true
   is_fine_line k (i ∷ is) = is_plain i && (not (ends i) && (has_needs x k i && is_fine_line (kinds_next k i) is))
 
-  -- each instruction has what it needs, and what comes to a declaration implies it
+  -- each instruction has what it needs, and what reaches a declaration implies it
   abbrev pub is_fine : Kinds → Tree → Bool
   is_fine k (Line is) = is_fine_line k is
   is_fine k (Stop i) = is_plain i && (ends i && (has_needs x k i && has_needs x (at_join (bare k)) (At (at_join (bare k)))))
@@ -77,7 +77,7 @@ module _ (x : Context) where
       implies k head && (has_needs x head (At head) && (has_needs x head (Jz r 0) && (implies (carried head (Jz r 0)) head && (has_needs x tested (Set ones 1) && (has_needs x (kinds_next tested (Set ones 1)) (Sub r ones)
       && (is_fine (kinds_in_turn head r) a && (has_needs x last (Jmp 0) && implies (carried last (Jmp 0)) head)))))))
 
--- the instructions pass where the first kinds come to them, and leave the second ones
+-- the instructions pass where the first kinds reach them, and leave the second ones
 pub record ArePassed (x : Context) (comes : Option Kinds) (is : List Instr) (leaves : Option Kinds) : Type 0 where
   pub passed : are_passed x comes is ≡ true
   pub after : comes_after comes is ≡ leaves

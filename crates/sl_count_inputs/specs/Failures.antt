@@ -45,7 +45,7 @@ counts_at before (fault.Read input.Before) = record before { before = one_more b
 counts_at before fault.Write = record before { out = one_more before.out }
 counts_at before fault.NoMemory = before
 
--- a call that comes to its end had no failure
+-- a call that is completed had no failure
 abbrev pub counts_after : {X : Type 0} → Counts → Result X DeskError → Counts
 counts_after before (Ok x) = before
 counts_after before (Err e) = counts_at before e

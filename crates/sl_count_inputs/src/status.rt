@@ -58,7 +58,7 @@ impl fmt::Display for Input {
     }
 }
 
-/// Why a call did not come to its end.
+/// Why a call was not completed.
 #[derive(Clone, Copy, Debug, PartialEq, Eq, Error)]
 pub enum DeskError {
     #[error("read fault {0}")]

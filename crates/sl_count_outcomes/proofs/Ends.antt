@@ -112,7 +112,7 @@ module _ (r : Records) (b : BookTree) (c : CountingCode) (e : Election) (is : Is
       go WithRecords (Faulted f) ends at = absurd (done_or_fault h f (sym (same_Some _ _ at)))
       go Dropped (Faulted f) ends at = absurd (done_or_fault h f (sym (same_Some _ _ at)))
 
-  -- how the run ends is how the book comes to its end
+  -- how the run ends is how the book ends
   pub end_is_meant : is_typed b ≡ true → (a : Answer) (x : Ends) → Answers a → EndsAs c e a x → IsMeantEnd r b e x
   end_is_meant typed (answer.Done h) (end.Counted x) told holds = counted_is_meant typed h x told holds
   end_is_meant typed (answer.Fault f) (end.Fault g) told same = subst (λ (k : LegalFault). Means b e (outcome.Fault k)) same (fault_is_meant f told)

@@ -1,4 +1,4 @@
--- Weights that bounds are told of are in the range that bounds ask.
+-- Weights for which bounds are given are in the range that bounds ask.
 use Rattle.std.proofs.Common.{◌≡◌, ℕ, ◌≤◌, List, map, sym, subst}
 use Rattle.std.specs.List.{All}
 use Rattle.std.proofs.lemmas.List.Elements.{All-map, All-weaker}

@@ -48,13 +48,13 @@ seats_of t w = count_by (is_of_entry w) t.steps
 
 -- ---- lines
 
--- a weight that bounds are told of, by a method
+-- a weight for which bounds are given, by a method
 pub record IsBoundsWeight (method : Divisor) (w : Weight) : Type 0 where
   pub by : w.divisor ≡ method
   pub positive : 1 ≤ w.weight
   pub limit : w.weight ≤ MAX_WEIGHT
 
--- bounds are told of a scope of these weights and seats: all weights are by the method, which rounds, no number is past its limit, and a seat
+-- bounds are given for a scope of these weights and seats: all weights are by the method, which rounds, no number is past its limit, and a seat
 -- was awarded
 pub record TellsBounds (method : Divisor) (ws : List Weight) (seats : List ℕ) : Type 0 where
   pub rounding : IsRounding method
@@ -62,7 +62,7 @@ pub record TellsBounds (method : Divisor) (ws : List Weight) (seats : List ℕ) 
   pub held : All (λ s. s ≤ MAX_SEATS) seats
   pub awarded : 0 < sum seats
 
--- the pair of bounds that is told of a scope, if any
+-- the pair of bounds that is given for a scope, if any
 abbrev pub IsToldPair : Divisor → List Weight → List ℕ → Option (Quotient × Quotient) → Type 0
 IsToldPair method ws seats pair =
     (TellsBounds method ws seats × AreBounds method (map (λ w. w.weight) ws) seats pair)

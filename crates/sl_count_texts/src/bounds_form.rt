@@ -116,14 +116,14 @@ fn seats_within(
     Ok(Some(seats))
 }
 
-// Whether bounds are told of a weight by a method.
+// Whether bounds are given for a weight by a method.
 fn is_bounds_weight(method: Divisor, weight: &Weight) -> bool
     ensures { MatchBool result (IsBoundsWeight method weight.now) (¬ IsBoundsWeight method weight.now) }
 {
     weight.divisor == method && 1 <= weight.weight && weight.weight <= MAX_WEIGHT
 }
 
-// Whether bounds are told of weights by a method.
+// Whether bounds are given for weights by a method.
 fn are_bounds_weights(method: Divisor, scope: &[&Weight]) -> bool
     ensures { MatchBool result (All (IsBoundsWeight method) (map (λ w. w.now) scope.now)) (¬ All (IsBoundsWeight method) (map (λ w. w.now) scope.now)) }
 {
@@ -160,7 +160,7 @@ fn is_awarded(seats: &[u32]) -> bool
     )
 }
 
-// The bounds that are told of a scope, by a method.
+// The bounds that are given for a scope, by a method.
 fn scope_bounds(
     alloc: Global,
     method: Divisor,

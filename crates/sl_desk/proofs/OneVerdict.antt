@@ -1,4 +1,4 @@
--- The text of a book, and the bytes of returns, come to exactly one verdict, by the laws of the layers below.
+-- The text of a book, and the bytes of returns, yield exactly one verdict, by the laws of the layers below.
 use Rattle.std.proofs.Common.{◌≡◌, ℕ, ◌<◌, ◌≤◌, List, length, ◌⊎◌, inl, inr, Option, Some, None, Ok, Err, Result, refl}
 use Rattle.std.proofs.lemmas.Bool.{cases_lt}
 use Rattle.sl_lex.specs.declared.token.Token.{Token}
@@ -27,7 +27,7 @@ use Rattle.sl_count_inputs.specs.Returns.{IsReturnsVerdict}
 use Rattle.sl_desk.specs.Laws.{OneBookVerdict, OneReturnsVerdict}
 use Rattle.sl_desk.proofs.OneOutput.{LowerLaws, one_text_verdict, one_returns_verdict}
 
--- what the layers below say beside that: nothing is left out
+-- what the layers below say besides that: nothing is left out
 pub record WholeLaws : Type 0 where
   pub tokens_or_fault : (source : List ℕ) → lex.HasTokens source ⊎ lex.HasFault source
   pub book_or_fault : (source : List ℕ) (tokens : List Token) → parse.HasBook source tokens ⊎ parse.HasFault source tokens

@@ -24,7 +24,7 @@ use Rattle.sl_count_calls.specs.Showing.{IsStageOutput}
 use Rattle.sl_count_calls.specs.Reports.{IsReported}
 use Rattle.sl_count_calls.specs.Counting.{ShowsSeats}
 
--- each text of a book comes to exactly one verdict
+-- each text of a book yields exactly one verdict
 abbrev pub OneBookVerdict : Type 0
 OneBookVerdict = (bytes : List ℕ) → ExactlyOne (IsTextVerdict bytes)
 
@@ -46,7 +46,7 @@ HasOneStage = (name : List ℕ) (input : BookInput) (returns : List ℕ) (a b : 
 abbrev pub HasOneCheck : Type 0
 HasOneCheck = (input : BookInput) (a b : Status) (s t : List ℕ) → IsCheckOutput input a s → IsCheckOutput input b t → (a ≡ b) × (s ≡ t)
 
--- the bytes of a code file come to exactly one verdict
+-- the bytes of a code file yield exactly one verdict
 abbrev pub OneCodeVerdict : Type 0
 OneCodeVerdict = (bytes : List ℕ) → All IsByte bytes → ExactlyOne (IsCodeVerdict bytes)
 

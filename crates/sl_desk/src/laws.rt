@@ -9,7 +9,7 @@ pub fn limits()
     ensures { (MAX_BOOK_BYTES ≡ 65536) × (MAX_CODE_BYTES ≡ 4194304) × (MAX_RETURNS_BYTES ≡ 4194304) }
 {}
 
-/// Each text of a book comes to exactly one verdict: a good book, or one refusal.
+/// Each text of a book yields exactly one verdict: a good book, or one refusal.
 pub fn books_have_one_verdict()
     ensures { OneBookVerdict }
 {
@@ -23,7 +23,7 @@ pub fn books_have_one_verdict()
     sl_parse::laws::book_or_fault();
 }
 
-/// The bytes of returns come to exactly one verdict: an election, or one refusal.
+/// The bytes of returns yield exactly one verdict: an election, or one refusal.
 pub fn returns_have_one_verdict()
     ensures { OneReturnsVerdict }
 {}
@@ -64,7 +64,7 @@ pub fn books_have_one_check()
     sl_parse::laws::no_fault_of_a_book();
 }
 
-/// The bytes of a code file come to exactly one verdict: a good code, or one refusal.
+/// The bytes of a code file yield exactly one verdict: a good code, or one refusal.
 pub fn code_files_have_one_verdict()
     ensures one { OneCodeVerdict }
     ensures no_other { NoOtherCodeVerdict }

@@ -131,7 +131,7 @@ pub data Leaves (b : BookTree) : List CheckFault → BookTree → Type 0 where
   none : Leaves b [] b
   one_more : {fs : List CheckFault} {left : BookTree} → (f : CheckFault) → Leaves b fs left → check_fault left ≡ Some f → Leaves b (fs ++ f ∷ []) (without_fault f left)
 
--- all further faults of a rulebook behind a fault: nothing that is left is refused
+-- all further faults of a rulebook after a fault: nothing that is left is refused
 pub record AreFurther (b : BookTree) (f : CheckFault) (fs : List CheckFault) : Type 0 where
   pub left : BookTree
   pub leaves : Leaves (without_fault f b) fs left
@@ -142,7 +142,7 @@ pub record Tells (r : Further) (fs : List CheckFault) : Type 0 where
   pub lines : length r.lines.items ≡ min MAX_FURTHER (length fs)
   pub more : r.more ≡ length fs - MAX_FURTHER
 
--- so it is with all further faults of a rulebook behind a fault
+-- so it is with all further faults of a rulebook after a fault
 pub record TellsAll (b : BookTree) (f : CheckFault) (r : Further) : Type 0 where
   pub faults : List CheckFault
   pub all : AreFurther b f faults

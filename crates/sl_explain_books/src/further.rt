@@ -9,29 +9,14 @@ use crate::clause::Clause;
 use crate::left_out::without;
 use crate::pieces::line_number;
 use crate::tests::explain_fault;
+use crate::texts::{ALSO, LINE, MORE};
 use sl_check::check;
-use sl_explain_texts::{Explanation, Message, Speaker};
+use sl_explain_texts::{Explanation, Speaker};
 use sl_ratio::NoMemory;
 use sl_stages::{Book, CheckFault};
 
 /// How many of the further clauses that are refused have a line.
 pub const MAX_FURTHER: usize = 20;
-
-const ALSO: Message = Message {
-    english: "also refused, with these clauses left out:",
-    german: "auch abgelehnt, wenn man diese Klauseln weglässt:",
-};
-
-// Values: the number of the line, and what is wrong there.
-const LINE: Message = Message {
-    english: "  line $: $",
-    german: "  Zeile $: $",
-};
-
-const MORE: Message = Message {
-    english: "  and $ more",
-    german: "  und $ weitere",
-};
 
 // A refused rulebook, as it was written.
 #[derive(Clone, Copy)]
@@ -77,7 +62,7 @@ impl Further {
         Ok(())
     }
 
-    // Those of a rulebook behind its first fault.
+    // Those of a rulebook after its first fault.
     fn of(written: &Written<'_>, fault: CheckFault) -> Result<Further, NoMemory>
         ensures { IfOk result (TellsAll (book_of written.now.book.now) fault) }
     {
@@ -100,7 +85,7 @@ impl Further {
         Err(NoMemory)
     }
 
-    // Writes them behind an explanation. Nothing where there are none.
+    // Writes them after an explanation. Nothing where there are none.
     fn write(self, speaker: Speaker, explanation: &mut Explanation) -> Result<(), NoMemory>
         ensures { explanation.new.code ≡ explanation.old.code }
     {

@@ -8,94 +8,22 @@ mod contexts;
 mod going_on;
 pub mod limits;
 
-use crate::meant::{METHOD, NO_METHOD, is_droop, keyword_of, method_of};
+use crate::meant::{is_droop, keyword_of, method_of};
 use crate::near::help_nearest_or;
 use crate::pieces::{line_number, piece, span_within, token_span};
+use crate::texts::{
+    AFTER, AFTER_BOOK, AFTER_OTHER, AFTER_STAGE, DOUBLE, ENDED, FORMS_EXPLAINED, FOUND, METHOD,
+    NO_CLAUSE, NO_FORM, NO_METHOD, NO_SEMICOLON, RESERVED, SEMICOLON, SURPLUS,
+};
 use crate::whole::explain_whole;
 use contexts::remedy;
 use going_on::{expected, listed, words};
 use limits::{explain_depth, explain_no_room, explain_stages};
-use sl_explain_texts::{Explanation, FaultCode, Language, Message, Sentence, Span, Speaker};
+use sl_explain_texts::{Explanation, FaultCode, Language, Message, Span, Speaker};
 use sl_lex::{Keyword, Kind, Mark, Token};
 use sl_parse::{ParseFault, Sort};
 use sl_ratio::NoMemory;
 use std::alloc::Global;
-
-const FOUND: Sentence = Sentence {
-    code: FaultCode::B07,
-    english: "`$` cannot stand here; expected $",
-    german: "`$` kann hier nicht stehen; erwartet wird $",
-};
-
-const ENDED: Sentence = Sentence {
-    code: FaultCode::B07,
-    english: "the rulebook ends here and is not complete; expected $",
-    german: "das Regelwerk endet hier und ist nicht vollständig; erwartet wird $",
-};
-
-const NO_CLAUSE: Sentence = Sentence {
-    code: FaultCode::B07,
-    english: "the file has no clause, but blanks and comments alone",
-    german: "die Datei hat keine Klausel, nur Leerraum und Kommentare",
-};
-
-const NO_SEMICOLON: Sentence = Sentence {
-    code: FaultCode::B07,
-    english: "a `;` is missing after `$`",
-    german: "hinter `$` fehlt ein `;`",
-};
-
-const SEMICOLON: Message = Message {
-    english: "each clause ends with `;`",
-    german: "jede Klausel endet mit `;`",
-};
-
-const SURPLUS: Message = Message {
-    english: "delete it, or put a `(` where one is missing before it",
-    german: "sie löschen, oder eine `(` setzen, wo davor eine fehlt",
-};
-
-const DOUBLE: Message = Message {
-    english: "delete it: one `;` ends a clause",
-    german: "es löschen: ein `;` beendet eine Klausel",
-};
-
-const NO_FORM: Sentence = Sentence {
-    code: FaultCode::B07,
-    english: "there is no form `$(..)`",
-    german: "es gibt keine Form `$(..)`",
-};
-
-const FORMS: Message = Message {
-    english: "the forms are `sum(e, party)`, `larger(e, f)` for the greater of two, `less(e, f)` for a difference, `split(seats, votes, method)` and `grow(seats, votes, method, minima, cap)`",
-    german: "die Formen sind `sum(e, party)`, `larger(e, f)` für das größere von zweien, `less(e, f)` für eine Differenz, `split(seats, votes, method)` und `grow(seats, votes, method, minima, cap)`",
-};
-
-const RESERVED: Message = Message {
-    english: "`$` is a word of the language, and no name: choose another",
-    german: "`$` ist ein Wort der Sprache und kein Name: einen anderen wählen",
-};
-
-const AFTER: Sentence = Sentence {
-    code: FaultCode::B10,
-    english: "`$` stands after the last clause, `seats ..;`, which ends a rulebook",
-    german: "`$` steht hinter der letzten Klausel, `seats ..;`, mit der ein Regelwerk endet",
-};
-
-const AFTER_STAGE: Message = Message {
-    english: "move this stage up, above the clause `seats ..;`",
-    german: "diese Stufe nach oben setzen, über die Klausel `seats ..;`",
-};
-
-const AFTER_BOOK: Message = Message {
-    english: "a file has one rulebook: put the second one into a file of its own",
-    german: "eine Datei hat ein Regelwerk: das zweite in eine eigene Datei setzen",
-};
-
-const AFTER_OTHER: Message = Message {
-    english: "delete what stands after it, or begin it with `#` as a comment",
-    german: "löschen, was dahinter steht, oder es mit `#` als Kommentar beginnen",
-};
 
 // The words that begin a form.
 const FORM_WORDS: [&[u8]; 5] = [b"sum", b"larger", b"less", b"split", b"grow"];
@@ -192,7 +120,13 @@ impl<'a> Place<'a> {
         let span = span_within(self.text, before.start, before.end);
         let word = piece(self.text, span);
         let mut explanation = self.speaker.says_at(&NO_FORM, &[word], span)?;
-        help_nearest_or(self.speaker, &mut explanation, word, &FORM_WORDS, &FORMS)?;
+        help_nearest_or(
+            self.speaker,
+            &mut explanation,
+            word,
+            &FORM_WORDS,
+            &FORMS_EXPLAINED,
+        )?;
         Ok(explanation)
     }
 

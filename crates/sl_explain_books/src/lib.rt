@@ -15,6 +15,7 @@ mod meant;
 mod near;
 mod pieces;
 mod tests;
+mod texts;
 mod tokens;
 mod unknown;
 mod whole;

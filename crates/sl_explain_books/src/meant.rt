@@ -1,19 +1,5 @@
 //! Words of other languages and of other books for those of the language.
 
-use sl_explain_texts::Message;
-
-/// What is said of a method by another name; the value is its keyword.
-pub const METHOD: Message = Message {
-    english: "the method is called `$`",
-    german: "das Verfahren heißt `$`",
-};
-
-/// What is said of a method that the language lacks.
-pub const NO_METHOD: Message = Message {
-    english: "the language has no quota of Droop; largest remainders by Hare's quota are `hamilton`",
-    german: "eine Droop-Quote gibt es nicht; größte Reste mit der Hare-Quote sind `hamilton`",
-};
-
 // Names of methods, in small letters, and their keywords.
 const METHODS: [(&[u8], &[u8]); 18] = [
     (b"sainte", b"webster"),

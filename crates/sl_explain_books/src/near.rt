@@ -12,7 +12,7 @@ use std::alloc::Global;
 pub fn columns_of_returns(alloc: Global) -> Result<Vec<&'static [u8]>, NoMemory> {
     let mut columns = Vec::new(alloc);
     for fact in &FACTS {
-        columns.push(fact_keyword(*fact).spelling())?;
+        columns.push(fact_keyword(*fact).spelling().as_bytes())?;
     }
     Ok(columns)
 }

@@ -8,45 +8,15 @@ mod character;
 
 use crate::near::help_nearest_or;
 use crate::pieces::{piece, span_within, token_span};
+use crate::texts::{
+    BIG_NUMBER, BIG_NUMBER_REMEDY, LONG_NAME, LONG_NAME_REMEDY, NOT_CLOSED, NOT_CLOSED_REMEDY,
+};
 use crate::whole::explain_whole;
 use character::{explain_character, explain_in_text};
-use sl_explain_texts::{Explanation, FaultCode, Language, Message, Sentence, Span, Speaker};
+use sl_explain_texts::{Explanation, FaultCode, Language, Span, Speaker};
 use sl_lex::LexFault;
 use sl_ratio::{MAX_NAME_BYTES, NoMemory};
 use std::alloc::Global;
-
-const NOT_CLOSED: Sentence = Sentence {
-    code: FaultCode::B04,
-    english: "a text in quotes begins here, and is not closed on its line",
-    german: "hier beginnt ein Text in Anführungszeichen, der auf seiner Zeile nicht endet",
-};
-
-const NOT_CLOSED_REMEDY: Message = Message {
-    english: "close it with `\"` on the same line, as in `law \"My law\";`",
-    german: "ihn auf derselben Zeile mit `\"` schließen, wie in `law \"Mein Gesetz\";`",
-};
-
-const BIG_NUMBER: Sentence = Sentence {
-    code: FaultCode::B05,
-    english: "the number $ is too great: numbers end at 999,999,999",
-    german: "die Zahl $ ist zu groß: Zahlen gehen bis 999.999.999",
-};
-
-const BIG_NUMBER_REMEDY: Message = Message {
-    english: "a house and a cap have at most 4000 seats, and `n per d` at most 1000 parts",
-    german: "ein Haus und eine Obergrenze haben höchstens 4000 Sitze, und `n per d` höchstens 1000 Teile",
-};
-
-const LONG_NAME: Sentence = Sentence {
-    code: FaultCode::B06,
-    english: "the word `$` has $ characters, and a word has at most $",
-    german: "das Wort `$` hat $ Zeichen, und ein Wort hat höchstens $",
-};
-
-const LONG_NAME_REMEDY: Message = Message {
-    english: "shorten it, wherever the name stands",
-    german: "es kürzen, überall wo der Name steht",
-};
 
 // The longest keywords, which a word of more bytes may be meant for.
 const LONG_KEYWORDS: [&[u8]; 2] = [b"independents", b"population"];

@@ -4,68 +4,15 @@ ghost use Rattle.std.specs.Prelude.{◌≡◌, IfOk, Some};
 ghost use Rattle.sl_explain_texts.specs.declared.code.FaultCode.TheVariants.{B01, B22};
 
 use crate::near::{columns_of_returns, help_nearest_stage, help_stages};
-use sl_explain_texts::{Explanation, FaultCode, Language, Message, Sentence, Speaker};
+use crate::texts::{
+    COLUMN, ELECTION, ITS_STAGES, LIBRARY, NAME_ALONE, NO_ELECTION, NO_STAGE, NO_STAGES,
+    NO_STATUTE, SEATS_NO_STAGE, UNKNOWN_STATUTE,
+};
+use sl_explain_texts::{Explanation, FaultCode, Language, Sentence, Speaker};
 use sl_laws::{ELECTIONS, STATUTES, law};
 use sl_ratio::NoMemory;
 use sl_stages::{Book, Stage};
 use std::alloc::Global;
-
-const UNKNOWN_STATUTE: Sentence = Sentence {
-    code: FaultCode::B01,
-    english: "the library has no rulebook `$`",
-    german: "die Bibliothek hat kein Regelwerk `$`",
-};
-
-const LIBRARY: Message = Message {
-    english: "it has $; a command that reads a rulebook takes them with `@`, as in `seatlaw count @2023-order returns.csv`, and `law` without it",
-    german: "sie hat $; ein Befehl, der ein Regelwerk liest, nimmt sie mit `@`, wie in `seatlaw count @2023-order returns.csv`, und `law` ohne es",
-};
-
-const NAME_ALONE: Message = Message {
-    english: "the name of that rulebook is `$`",
-    german: "der Name dieses Regelwerks ist `$`",
-};
-
-const ELECTION: Message = Message {
-    english: "the election of $ was held under the rulebook `$`",
-    german: "die Wahl von $ folgte dem Regelwerk `$`",
-};
-
-const NO_ELECTION: Message = Message {
-    english: "the statute of the election of $ is not in the library",
-    german: "das Gesetz der Wahl von $ ist nicht in der Bibliothek",
-};
-
-const NO_STATUTE: Message = Message {
-    english: "the statute of 2020, under which the election of 2021 was held, is not in the library",
-    german: "das Gesetz von 2020, dem die Wahl von 2021 folgte, ist nicht in der Bibliothek",
-};
-
-const NO_STAGE: Sentence = Sentence {
-    code: FaultCode::B22,
-    english: "the rulebook has no stage `$`",
-    german: "das Regelwerk hat keine Stufe `$`",
-};
-
-const STAGES: Message = Message {
-    english: "its stages are $",
-    german: "das Regelwerk hat die Stufen $",
-};
-
-const NO_STAGES: Message = Message {
-    english: "it has no stages at all: `count` shows the seats",
-    german: "es hat gar keine Stufen: `count` zeigt die Sitze",
-};
-
-const SEATS: Message = Message {
-    english: "`seats` is the last clause and no stage: `count` shows what it yields",
-    german: "`seats` ist die letzte Klausel und keine Stufe: `count` zeigt, was sie ergibt",
-};
-
-const COLUMN: Message = Message {
-    english: "`$` is a column of the returns; a stage that shows it is `stage shown = $;`",
-    german: "`$` ist eine Spalte der Wahlergebnisse; eine Stufe, die sie zeigt, ist `stage shown = $;`",
-};
 
 // What to say of an election, by its statute.
 fn help_election(
@@ -195,7 +142,7 @@ fn help_stage(
     let word = name.as_bytes();
     let columns = columns_of_returns(speaker.alloc)?;
     if name == "seats" {
-        speaker.helps(explanation, &SEATS, &[])
+        speaker.helps(explanation, &SEATS_NO_STAGE, &[])
     } else if columns.contains(&word) {
         speaker.helps(explanation, &COLUMN, &[word, word])
     } else {
@@ -216,6 +163,6 @@ pub fn explain_unknown_stage(
     let stages = book.stages.as_slice();
     let mut explanation = say_unknown(speaker, &NO_STAGE, name)?;
     help_stage(speaker, &mut explanation, stages, name)?;
-    help_stages(speaker, &mut explanation, stages, &STAGES, &NO_STAGES)?;
+    help_stages(speaker, &mut explanation, stages, &ITS_STAGES, &NO_STAGES)?;
     Ok(explanation)
 }

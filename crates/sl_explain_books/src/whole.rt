@@ -3,6 +3,11 @@
 ghost use Rattle.std.specs.Prelude.{◌≡◌, IfOk, IfSome, Some};
 
 use crate::pieces::span_within;
+use crate::texts::{
+    BYTE_ORDER_MARK, BYTE_ORDER_MARK_REMEDY, CODE_FILE, CODE_FILE_REMEDY, EMPTY_FILE,
+    EMPTY_FILE_REMEDY, PACKED_FILE, PACKED_FILE_REMEDY, RETURNS_FILE, RETURNS_FILE_REMEDY,
+    UTF16_FILE, UTF16_FILE_REMEDY,
+};
 use sl_explain_texts::{Explanation, FaultCode, Message, Speaker, packing_of};
 use sl_ratio::NoMemory;
 
@@ -15,74 +20,38 @@ struct Other {
 }
 
 static EMPTY: Other = Other {
-    sentence: Message {
-        english: "the file is empty",
-        german: "die Datei ist leer",
-    },
-    remedy: Message {
-        english: "a rulebook begins with `rulebook 1;`; `seatlaw law 2023-order` shows a whole one",
-        german: "ein Regelwerk beginnt mit `rulebook 1;`; `seatlaw law 2023-order` zeigt ein ganzes",
-    },
+    sentence: EMPTY_FILE,
+    remedy: EMPTY_FILE_REMEDY,
     shown: 0,
 };
 
 static CODE: Other = Other {
-    sentence: Message {
-        english: "this is a code file, and no rulebook",
-        german: "das ist eine Codedatei und kein Regelwerk",
-    },
-    remedy: Message {
-        english: "a code file is counted by `run`: `seatlaw run CODE RETURNS`",
-        german: "eine Codedatei wird mit `run` gezählt: `seatlaw run CODE RETURNS`",
-    },
+    sentence: CODE_FILE,
+    remedy: CODE_FILE_REMEDY,
     shown: 3,
 };
 
 static RETURNS: Other = Other {
-    sentence: Message {
-        english: "these are returns, and no rulebook",
-        german: "das sind Wahlergebnisse und kein Regelwerk",
-    },
-    remedy: Message {
-        english: "`totals` and `compare` take RETURNS, then BOOK, as in `seatlaw totals returns.csv @2023-order`; the other commands BOOK, then RETURNS, as in `seatlaw count @2023-order returns.csv`",
-        german: "`totals` und `compare` nehmen RETURNS, dann BOOK, wie in `seatlaw totals returns.csv @2023-order`; die anderen Befehle BOOK, dann RETURNS, wie in `seatlaw count @2023-order returns.csv`",
-    },
+    sentence: RETURNS_FILE,
+    remedy: RETURNS_FILE_REMEDY,
     shown: 4,
 };
 
 static PACKED: Other = Other {
-    sentence: Message {
-        english: "this file is compressed, such as a workbook, a document of a word processor or an archive, and no text",
-        german: "diese Datei ist komprimiert, etwa eine Arbeitsmappe, ein Dokument einer Textverarbeitung oder ein Archiv, und kein Text",
-    },
-    remedy: Message {
-        english: "unpack an archive first; save a document as plain text, in UTF-8",
-        german: "ein Archiv zuerst entpacken; ein Dokument als reinen Text speichern, in UTF-8",
-    },
+    sentence: PACKED_FILE,
+    remedy: PACKED_FILE_REMEDY,
     shown: 2,
 };
 
 static UTF16: Other = Other {
-    sentence: Message {
-        english: "the file is written in UTF-16",
-        german: "die Datei ist in UTF-16 geschrieben",
-    },
-    remedy: Message {
-        english: "save it in UTF-8, without a byte order mark",
-        german: "in UTF-8 speichern, ohne Bytereihenfolge-Markierung (BOM)",
-    },
+    sentence: UTF16_FILE,
+    remedy: UTF16_FILE_REMEDY,
     shown: 2,
 };
 
 static BYTE_ORDER: Other = Other {
-    sentence: Message {
-        english: "the file begins with a byte order mark, which editors do not show",
-        german: "die Datei beginnt mit einer Bytereihenfolge-Markierung (BOM), die Editoren nicht zeigen",
-    },
-    remedy: Message {
-        english: "save it as \"UTF-8\", and not as \"UTF-8 with BOM\"",
-        german: "als \"UTF-8\" speichern, und nicht als \"UTF-8 mit BOM\"",
-    },
+    sentence: BYTE_ORDER_MARK,
+    remedy: BYTE_ORDER_MARK_REMEDY,
     shown: 3,
 };
 

@@ -108,7 +108,7 @@ pub fn explain_outcome(
     }
 }
 
-/// Why a rulebook and returns of these texts come to no table, or `None` where they come to one.
+/// Why a rulebook and returns of these texts yield no table, or `None` where they yield one.
 pub fn explain_judged(
     alloc: Global,
     language: Language,

@@ -11,6 +11,7 @@ mod calls;
 mod explained;
 mod opening;
 mod refusals;
+mod texts;
 
 pub use calls::{
     explain_check, explain_judged, explain_outcome, explain_read, explain_run, explain_verdict,

@@ -1,158 +1,16 @@
 //! Files that cannot be opened, read or written.
 
+use crate::texts::{
+    ANOTHER, BACKSLASH, BOOK_FIRST, BOOK_THEN_RETURNS, FOLDER, FORCE, FULL, LIBRARY, LOST,
+    LOST_BOOK, NO_BEFORE, NO_BOOK, NO_CODE, NO_CODE_FILE, NO_NAMES, NO_OUTPUT, NO_RETURNS, PATH,
+    RETURNS_FIRST, RETURNS_THEN_BOOK, SCHEME, SHELL, STANDARD_INPUT, UNREAD_BEFORE, UNREAD_BOOK,
+    UNREAD_CODE, UNREAD_NAMES, UNREAD_RETURNS, UNWRITTEN,
+};
 use sl_count_inputs::{DeskError, Input};
 use sl_explain_texts::{Explanation, Language, Message};
 use sl_laws::law;
 use sl_ratio::NoMemory;
 use std::alloc::Global;
-
-const NO_BOOK: Message = Message {
-    english: "the rulebook `$` cannot be opened: $",
-    german: "das Regelwerk `$` lässt sich nicht öffnen: $",
-};
-
-const NO_RETURNS: Message = Message {
-    english: "the returns `$` cannot be opened: $",
-    german: "die Wahlergebnisse `$` lassen sich nicht öffnen: $",
-};
-
-const NO_CODE: Message = Message {
-    english: "the code file `$` cannot be opened: $",
-    german: "die Codedatei `$` lässt sich nicht öffnen: $",
-};
-
-const NO_NAMES: Message = Message {
-    english: "the names `$` cannot be opened: $",
-    german: "die Namen `$` lassen sich nicht öffnen: $",
-};
-
-const NO_BEFORE: Message = Message {
-    english: "the earlier table `$` cannot be opened: $",
-    german: "die frühere Sitztabelle `$` lässt sich nicht öffnen: $",
-};
-
-const NO_OUTPUT: Message = Message {
-    english: "the file `$` cannot be written: $",
-    german: "die Datei `$` lässt sich nicht schreiben: $",
-};
-
-const LOST: Message = Message {
-    english: "the file `$` is no code file, and would be lost",
-    german: "die Datei `$` ist keine Codedatei und ginge verloren",
-};
-
-const LOST_BOOK: Message = Message {
-    english: "the file `$` has the bytes of the rulebook, which would be lost",
-    german: "die Datei `$` hat die Bytes des Regelwerks, das verloren ginge",
-};
-
-const FORCE: Message = Message {
-    english: "write the code to another file, or add `--force`",
-    german: "den Code in eine andere Datei schreiben, oder `--force` hinzufügen",
-};
-
-const ANOTHER: Message = Message {
-    english: "write the code to another file",
-    german: "den Code in eine andere Datei schreiben",
-};
-
-// What is said of an input that was opened, and of standard output or a file that was.
-const UNREAD_BOOK: Message = Message {
-    english: "the file of the rulebook was opened, and cannot be read",
-    german: "die Datei des Regelwerks ließ sich öffnen, aber nicht lesen",
-};
-
-const UNREAD_RETURNS: Message = Message {
-    english: "the file of the returns was opened, and cannot be read",
-    german: "die Datei der Wahlergebnisse ließ sich öffnen, aber nicht lesen",
-};
-
-const UNREAD_CODE: Message = Message {
-    english: "the code file was opened, and cannot be read",
-    german: "die Codedatei ließ sich öffnen, aber nicht lesen",
-};
-
-const UNREAD_NAMES: Message = Message {
-    english: "the file of the names was opened, and cannot be read",
-    german: "die Datei der Namen ließ sich öffnen, aber nicht lesen",
-};
-
-const UNREAD_BEFORE: Message = Message {
-    english: "the file of the earlier table was opened, and cannot be read",
-    german: "die Datei der früheren Sitztabelle ließ sich öffnen, aber nicht lesen",
-};
-
-const UNWRITTEN: Message = Message {
-    english: "what the command writes could not be written to its end",
-    german: "was der Befehl schreibt, ließ sich nicht zu Ende schreiben",
-};
-
-const FOLDER: Message = Message {
-    english: "is it a folder? Give the path of a file in it",
-    german: "ist es ein Ordner? Den Pfad einer Datei darin angeben",
-};
-
-const FULL: Message = Message {
-    english: "the disk may be full, or the program that reads the output may have ended",
-    german: "vielleicht ist die Platte voll, oder das Programm, das die Ausgabe liest, ist zu Ende",
-};
-
-const LIBRARY: Message = Message {
-    english: "the library has this rulebook as `@$`",
-    german: "die Bibliothek hat dieses Regelwerk als `@$`",
-};
-
-const STANDARD_INPUT: Message = Message {
-    english: "for standard input write `/dev/stdin`",
-    german: "für die Standardeingabe `/dev/stdin` schreiben",
-};
-
-// The order of the words; values: the path, the command twice, and the path or a rulebook.
-const BOOK_FIRST: Message = Message {
-    english: "`$` is a rulebook, and `$` takes it first: `seatlaw $ $ returns.csv`",
-    german: "`$` ist ein Regelwerk, und `$` nimmt es zuerst: `seatlaw $ $ returns.csv`",
-};
-
-const RETURNS_FIRST: Message = Message {
-    english: "`$` is a rulebook, and `$` takes the returns first: `seatlaw $ returns.csv $`",
-    german: "`$` ist ein Regelwerk, und `$` nimmt die Wahlergebnisse zuerst: `seatlaw $ returns.csv $`",
-};
-
-// Values: the command, twice.
-const BOOK_THEN_RETURNS: Message = Message {
-    english: "`$` takes the rulebook first, then the returns: `seatlaw $ @2023-order returns.csv`",
-    german: "`$` nimmt zuerst das Regelwerk, dann die Wahlergebnisse: `seatlaw $ @2023-order returns.csv`",
-};
-
-const RETURNS_THEN_BOOK: Message = Message {
-    english: "`$` takes the returns first, then the rulebook: `seatlaw $ returns.csv @2023-order`",
-    german: "`$` nimmt zuerst die Wahlergebnisse, dann das Regelwerk: `seatlaw $ returns.csv @2023-order`",
-};
-
-const NO_CODE_FILE: Message = Message {
-    english: "`$` is a rulebook, which `count` takes; `run` takes a code file, as `code` writes it",
-    german: "`$` ist ein Regelwerk, das `count` nimmt; `run` nimmt eine Codedatei, wie `code` sie schreibt",
-};
-
-const SCHEME: Message = Message {
-    english: "write a path, without `file://`",
-    german: "einen Pfad schreiben, ohne `file://`",
-};
-
-const SHELL: Message = Message {
-    english: "the shell replaces `~` and `*` only outside of quotes",
-    german: "die Shell ersetzt `~` und `*` nur außerhalb von Anführungszeichen",
-};
-
-const BACKSLASH: Message = Message {
-    english: "write a path with `/` between its parts",
-    german: "einen Pfad mit `/` zwischen seinen Teilen schreiben",
-};
-
-const PATH: Message = Message {
-    english: "look whether the path is right; a relative one begins in the folder in which the command runs",
-    german: "den Pfad prüfen; ein relativer beginnt in dem Ordner, in dem der Befehl läuft",
-};
 
 // The message that says which input cannot be opened.
 fn unopened(input: Input) -> Message {

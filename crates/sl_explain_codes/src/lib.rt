@@ -5,11 +5,7 @@
 //! Where an error is `NoMemory` alone, memory ran out, and nothing else is wrong.
 #![tactic(auto)]
 
-mod code_files;
-mod legal;
-mod returns;
 mod table;
-mod tests;
 mod texts;
 
 pub use table::{Entry, entry_of, text_about};

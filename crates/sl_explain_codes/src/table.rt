@@ -2,7 +2,7 @@
 
 ghost use Rattle.std.specs.Prelude.{◌≡◌};
 
-use crate::{code_files, legal, returns, tests, texts};
+use crate::texts::{self, EXAMPLE, REMEDY};
 use sl_base_no_memory::NoMemory;
 use sl_explain_texts::{FaultCode, Language, Message, append};
 use std::alloc::Global;
@@ -15,16 +15,6 @@ pub struct Entry {
     pub example: &'static str,
     pub remedy: Message,
 }
-
-const EXAMPLE: Message = Message {
-    english: "Example",
-    german: "Beispiel",
-};
-
-const REMEDY: Message = Message {
-    english: "What to do",
-    german: "Was zu tun ist",
-};
 
 /// What is to be said of a code.
 pub fn entry_of(code: FaultCode) -> &'static Entry
@@ -41,51 +31,51 @@ pub fn entry_of(code: FaultCode) -> &'static Entry
         FaultCode::B08 => &texts::B08,
         FaultCode::B09 => &texts::B09,
         FaultCode::B10 => &texts::B10,
-        FaultCode::B11 => &tests::B11,
-        FaultCode::B12 => &tests::B12,
-        FaultCode::B13 => &tests::B13,
-        FaultCode::B14 => &tests::B14,
-        FaultCode::B15 => &tests::B15,
-        FaultCode::B16 => &tests::B16,
-        FaultCode::B17 => &tests::B17,
-        FaultCode::B18 => &tests::B18,
-        FaultCode::B19 => &tests::B19,
-        FaultCode::B20 => &tests::B20,
-        FaultCode::B21 => &tests::B21,
+        FaultCode::B11 => &texts::B11,
+        FaultCode::B12 => &texts::B12,
+        FaultCode::B13 => &texts::B13,
+        FaultCode::B14 => &texts::B14,
+        FaultCode::B15 => &texts::B15,
+        FaultCode::B16 => &texts::B16,
+        FaultCode::B17 => &texts::B17,
+        FaultCode::B18 => &texts::B18,
+        FaultCode::B19 => &texts::B19,
+        FaultCode::B20 => &texts::B20,
+        FaultCode::B21 => &texts::B21,
         FaultCode::B22 => &texts::B22,
-        FaultCode::R01 => &returns::R01,
-        FaultCode::R02 => &returns::R02,
-        FaultCode::R03 => &returns::R03,
-        FaultCode::R04 => &returns::R04,
-        FaultCode::R05 => &returns::R05,
-        FaultCode::R06 => &returns::R06,
-        FaultCode::R07 => &returns::R07,
-        FaultCode::R08 => &returns::R08,
-        FaultCode::R09 => &returns::R09,
-        FaultCode::R10 => &returns::R10,
-        FaultCode::R11 => &returns::R11,
-        FaultCode::R12 => &returns::R12,
-        FaultCode::L01 => &legal::L01,
-        FaultCode::L02 => &legal::L02,
-        FaultCode::L03 => &legal::L03,
-        FaultCode::L04 => &legal::L04,
-        FaultCode::L05 => &legal::L05,
-        FaultCode::L06 => &legal::L06,
-        FaultCode::C01 => &code_files::C01,
-        FaultCode::C02 => &code_files::C02,
-        FaultCode::C03 => &code_files::C03,
-        FaultCode::C04 => &code_files::C04,
-        FaultCode::C05 => &code_files::C05,
-        FaultCode::C06 => &code_files::C06,
-        FaultCode::C07 => &code_files::C07,
-        FaultCode::C08 => &code_files::C08,
-        FaultCode::C09 => &code_files::C09,
-        FaultCode::C10 => &code_files::C10,
-        FaultCode::C11 => &code_files::C11,
-        FaultCode::C12 => &code_files::C12,
-        FaultCode::C13 => &code_files::C13,
-        FaultCode::C14 => &code_files::C14,
-        FaultCode::C15 => &code_files::C15,
+        FaultCode::R01 => &texts::R01,
+        FaultCode::R02 => &texts::R02,
+        FaultCode::R03 => &texts::R03,
+        FaultCode::R04 => &texts::R04,
+        FaultCode::R05 => &texts::R05,
+        FaultCode::R06 => &texts::R06,
+        FaultCode::R07 => &texts::R07,
+        FaultCode::R08 => &texts::R08,
+        FaultCode::R09 => &texts::R09,
+        FaultCode::R10 => &texts::R10,
+        FaultCode::R11 => &texts::R11,
+        FaultCode::R12 => &texts::R12,
+        FaultCode::L01 => &texts::L01,
+        FaultCode::L02 => &texts::L02,
+        FaultCode::L03 => &texts::L03,
+        FaultCode::L04 => &texts::L04,
+        FaultCode::L05 => &texts::L05,
+        FaultCode::L06 => &texts::L06,
+        FaultCode::C01 => &texts::C01,
+        FaultCode::C02 => &texts::C02,
+        FaultCode::C03 => &texts::C03,
+        FaultCode::C04 => &texts::C04,
+        FaultCode::C05 => &texts::C05,
+        FaultCode::C06 => &texts::C06,
+        FaultCode::C07 => &texts::C07,
+        FaultCode::C08 => &texts::C08,
+        FaultCode::C09 => &texts::C09,
+        FaultCode::C10 => &texts::C10,
+        FaultCode::C11 => &texts::C11,
+        FaultCode::C12 => &texts::C12,
+        FaultCode::C13 => &texts::C13,
+        FaultCode::C14 => &texts::C14,
+        FaultCode::C15 => &texts::C15,
     }
 }
 

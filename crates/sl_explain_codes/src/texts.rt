@@ -1,7 +1,21 @@
-//! Faults of the tokens and of the grammar of a rulebook, its length, and names on the command line.
+//! All texts of this crate, in both languages: a new language is one more field of each.
 
 use crate::table::Entry;
 use sl_explain_texts::{FaultCode, Message};
+
+// ---- the titles of the parts
+
+pub(crate) const EXAMPLE: Message = Message {
+    english: "Example",
+    german: "Beispiel",
+};
+
+pub(crate) const REMEDY: Message = Message {
+    english: "What to do",
+    german: "Was zu tun ist",
+};
+
+// ---- faults of the tokens and of the grammar of a rulebook, its length, and names on the command line
 
 pub static B01: Entry = Entry {
     code: FaultCode::B01,
@@ -187,5 +201,731 @@ pub static B22: Entry = Entry {
     remedy: Message {
         english: "Take one of the names after `stage` in the rulebook: `seatlaw law 2023-order` writes one of the library.",
         german: "Einen der Namen hinter `stage` im Regelwerk nehmen: `seatlaw law 2023-order` schreibt eines der Bibliothek.",
+    },
+};
+
+// ---- faults of rulebooks that are not well formed
+
+pub static B11: Entry = Entry {
+    code: FaultCode::B11,
+    title: Message {
+        english: "unknown version of the language",
+        german: "unbekannte Version der Sprache",
+    },
+    meaning: Message {
+        english: "The language has the versions 1 and 2, and `vacate` came with version 2.",
+        german: "Die Sprache hat die Versionen 1 und 2, und `vacate` kam mit Version 2.",
+    },
+    example: "rulebook 3;",
+    remedy: Message {
+        english: "Write `rulebook 1;`, or `rulebook 2;` if the last clause has `vacate`.",
+        german: "`rulebook 1;` schreiben, oder `rulebook 2;`, wenn die letzte Klausel `vacate` hat.",
+    },
+};
+
+pub static B12: Entry = Entry {
+    code: FaultCode::B12,
+    title: Message {
+        english: "house out of range",
+        german: "Haus außerhalb der Grenzen",
+    },
+    meaning: Message {
+        english: "A house has from 1 to 4000 seats.",
+        german: "Ein Haus hat 1 bis 4000 Sitze.",
+    },
+    example: "house 0;",
+    remedy: Message {
+        english: "Write the number of seats to be distributed, such as `house 630;`.",
+        german: "Die Zahl der Sitze schreiben, die zu vergeben sind, etwa `house 630;`.",
+    },
+};
+
+pub static B13: Entry = Entry {
+    code: FaultCode::B13,
+    title: Message {
+        english: "threshold out of range",
+        german: "Schwelle außerhalb der Grenzen",
+    },
+    meaning: Message {
+        english: "In `valid at least n per d`, n is at least 1 and at most d, and d is at most 1000.",
+        german: "In `valid at least n per d` ist n mindestens 1 und höchstens d, und d ist höchstens 1000.",
+    },
+    example: "eligible valid at least 500 per 100;",
+    remedy: Message {
+        english: "5 percent are `5 per 100`, and 4.5 percent `45 per 1000`. Without a threshold write `eligible all;`.",
+        german: "5 Prozent sind `5 per 100`, und 4,5 Prozent `45 per 1000`. Ohne Schwelle `eligible all;` schreiben.",
+    },
+};
+
+pub static B14: Entry = Entry {
+    code: FaultCode::B14,
+    title: Message {
+        english: "two stages of one name",
+        german: "zwei Stufen mit einem Namen",
+    },
+    meaning: Message {
+        english: "Each stage has a name of its own.",
+        german: "Jede Stufe hat einen eigenen Namen.",
+    },
+    example: "stage pool = house; stage pool = population;",
+    remedy: Message {
+        english: "Give one of the two another name, and write that one further down, where the stage is meant.",
+        german: "Einer der beiden einen anderen Namen geben, und diesen weiter unten schreiben, wo die Stufe gemeint ist.",
+    },
+};
+
+pub static B15: Entry = Entry {
+    code: FaultCode::B15,
+    title: Message {
+        english: "unknown name",
+        german: "unbekannter Name",
+    },
+    meaning: Message {
+        english: "An expression names columns of the returns, and stages above its own; the last clause names a stage. This name is none of them, or that of a stage that does not stand above.",
+        german: "Ein Ausdruck nennt Spalten der Wahlergebnisse, und Stufen über seiner eigenen; die letzte Klausel nennt eine Stufe. Dieser Name ist keiner davon, oder der einer Stufe, die nicht darüber steht.",
+    },
+    example: "stage lower = split(uper, counted, webster);",
+    remedy: Message {
+        english: "Check the spelling, and the order of the stages.",
+        german: "Die Schreibweise prüfen, und die Reihenfolge der Stufen.",
+    },
+};
+
+pub static B16: Entry = Entry {
+    code: FaultCode::B16,
+    title: Message {
+        english: "shapes that do not fit",
+        german: "Formen, die nicht passen",
+    },
+    meaning: Message {
+        english: "A column has a shape: a single number, or a number for each party, each Land or each list. Each form takes arguments of certain shapes (docs/language.md, section 4).",
+        german: "Eine Spalte hat eine Form: eine einzelne Zahl, oder eine Zahl je Partei, je Land oder je Liste. Jeder Ausdruck nimmt Argumente bestimmter Formen (docs/language.md, Abschnitt 4).",
+    },
+    example: "stage upper = split(house, sum(counted, all), webster);",
+    remedy: Message {
+        english: "Write `sum(.., party)`, `sum(.., land)` or `sum(.., all)` around an argument, or take another column.",
+        german: "Ein Argument in `sum(.., party)`, `sum(.., land)` oder `sum(.., all)` setzen, oder eine andere Spalte nehmen.",
+    },
+};
+
+pub static B17: Entry = Entry {
+    code: FaultCode::B17,
+    title: Message {
+        english: "units that do not fit",
+        german: "Einheiten, die nicht passen",
+    },
+    meaning: Message {
+        english: "A column has seats, or votes, as which people count too. `split` and `grow` distribute seats by votes, and `larger` and `less` take two columns of one unit.",
+        german: "Eine Spalte hat Sitze, oder Stimmen, zu denen auch Einwohner zählen. `split` und `grow` verteilen Sitze nach Stimmen, und `larger` und `less` nehmen zwei Spalten einer Einheit.",
+    },
+    example: "stage pool = less(house, sum(counted, all));",
+    remedy: Message {
+        english: "Exchange the arguments of `split`, or take another column.",
+        german: "Die Argumente von `split` vertauschen, oder eine andere Spalte nehmen.",
+    },
+};
+
+pub static B18: Entry = Entry {
+    code: FaultCode::B18,
+    title: Message {
+        english: "more than one distribution in a stage",
+        german: "mehr als eine Verteilung in einer Stufe",
+    },
+    meaning: Message {
+        english: "A stage has at most one `split` or `grow`.",
+        german: "Eine Stufe hat höchstens ein `split` oder `grow`.",
+    },
+    example: "stage lower = split(split(house, sum(counted, party), webster), counted, webster);",
+    remedy: Message {
+        english: "Make a stage of the inner one, above this stage, and write its name in its place.",
+        german: "Aus der inneren eine eigene Stufe machen, über dieser, und ihren Namen an ihre Stelle schreiben.",
+    },
+};
+
+pub static B19: Entry = Entry {
+    code: FaultCode::B19,
+    title: Message {
+        english: "option that the method does not take",
+        german: "Angabe, die es bei dem Verfahren nicht gibt",
+    },
+    meaning: Message {
+        english: "`majority prefer` goes with `hamilton` alone; `hamilton` takes no minima (`atleast`), and `grow` takes no `hamilton`.",
+        german: "`majority prefer` gibt es nur bei `hamilton`; bei `hamilton` gibt es keine Mindestzahlen (`atleast`), und bei `grow` kein `hamilton`.",
+    },
+    example: "stage upper = split(pool, sum(counted, party), webster, majority prefer);",
+    remedy: Message {
+        english: "Omit the option, or take another method.",
+        german: "Die Angabe weglassen, oder ein anderes Verfahren nehmen.",
+    },
+};
+
+pub static B20: Entry = Entry {
+    code: FaultCode::B20,
+    title: Message {
+        english: "cap out of range",
+        german: "Obergrenze außerhalb der Grenzen",
+    },
+    meaning: Message {
+        english: "The cap of a growth is from 1 to 4000 seats.",
+        german: "Die Obergrenze eines Wachstums ist 1 bis 4000 Sitze.",
+    },
+    example: "stage upper = grow(pool, sum(counted, party), webster, floor, 9000);",
+    remedy: Message {
+        english: "Write the greatest house that may be looked for, such as 4000.",
+        german: "Das größte Haus schreiben, das gesucht werden darf, etwa 4000.",
+    },
+};
+
+pub static B21: Entry = Entry {
+    code: FaultCode::B21,
+    title: Message {
+        english: "last clause without seats for each list",
+        german: "letzte Klausel ohne Sitze je Liste",
+    },
+    meaning: Message {
+        english: "The stage that the last clause names has seats for each list.",
+        german: "Die Stufe, die die letzte Klausel nennt, hat Sitze je Liste.",
+    },
+    example: "seats upper cover;",
+    remedy: Message {
+        english: "Distribute the seats among the lists by one more stage, `stage lists = split(upper, counted, webster);`, and name that one.",
+        german: "Die Sitze durch eine weitere Stufe auf die Listen verteilen, `stage lists = split(upper, counted, webster);`, und diese nennen.",
+    },
+};
+
+// ---- faults of returns
+
+pub static R01: Entry = Entry {
+    code: FaultCode::R01,
+    title: Message {
+        english: "wrong header",
+        german: "falsche Kopfzeile",
+    },
+    meaning: Message {
+        english: "The first record is exactly `kind,land,party,a,b,c`, or `kind2,land,party,a,b,c`.",
+        german: "Der erste Datensatz ist genau `kind,land,party,a,b,c`, oder `kind2,land,party,a,b,c`.",
+    },
+    example: "Kind;Land;Party;A;B;C",
+    remedy: Message {
+        english: "Separate the cells by commas, and write the header as the first line, in small letters.",
+        german: "Die Zellen durch Kommas trennen, und die Kopfzeile als erste Zeile schreiben, in kleinen Buchstaben.",
+    },
+};
+
+pub static R02: Entry = Entry {
+    code: FaultCode::R02,
+    title: Message {
+        english: "cells that do not fit the kind of record",
+        german: "Zellen, die nicht zur Art des Datensatzes passen",
+    },
+    meaning: Message {
+        english: "A record has six cells. Its kind says which of them are filled and which are empty (docs/returns.md, section 1).",
+        german: "Ein Datensatz hat sechs Zellen. Seine Art sagt, welche davon gefüllt und welche leer sind (docs/returns.md, Abschnitt 1).",
+    },
+    example: "land,Y,,1,",
+    remedy: Message {
+        english: "Count the commas: each record has five. Compare the record with the table of kinds.",
+        german: "Die Kommas zählen: Jeder Datensatz hat fünf. Den Datensatz mit der Tabelle der Arten vergleichen.",
+    },
+};
+
+pub static R03: Entry = Entry {
+    code: FaultCode::R03,
+    title: Message {
+        english: "unknown kind of record",
+        german: "unbekannte Art von Datensatz",
+    },
+    meaning: Message {
+        english: "The first cell is `house`, `land`, `party`, `list`, `win` or `lot`.",
+        german: "Die erste Zelle ist `house`, `land`, `party`, `list`, `win` oder `lot`.",
+    },
+    example: "seat,X,,1000,,",
+    remedy: Message {
+        english: "Correct the word; delete rows that have commas alone.",
+        german: "Das Wort berichtigen; Zeilen löschen, die nur Kommas haben.",
+    },
+};
+
+pub static R04: Entry = Entry {
+    code: FaultCode::R04,
+    title: Message {
+        english: "wrong name",
+        german: "falscher Name",
+    },
+    meaning: Message {
+        english: "A name has from 1 to 12 characters: letters from A to Z and a to z, digits, `_` and `-`.",
+        german: "Ein Name hat 1 bis 12 Zeichen: Buchstaben von A bis Z und a bis z, Ziffern, `_` und `-`.",
+    },
+    example: "land,Baden-Württemberg,,11000000,,",
+    remedy: Message {
+        english: "Take a short name, such as `BW`. Full names go into a file of their own (`--names`).",
+        german: "Einen kurzen Namen nehmen, etwa `BW`. Volle Namen kommen in eine eigene Datei (`--names`).",
+    },
+};
+
+pub static R05: Entry = Entry {
+    code: FaultCode::R05,
+    title: Message {
+        english: "wrong number",
+        german: "falsche Zahl",
+    },
+    meaning: Message {
+        english: "A number is one to twelve digits, without separators, decimals and blanks.",
+        german: "Eine Zahl sind ein bis zwölf Ziffern, ohne Trennzeichen, Nachkommastellen und Leerzeichen.",
+    },
+    example: "list,X,A,1.000,900,",
+    remedy: Message {
+        english: "Write 1000, and neither 1.000 nor 1,000.",
+        german: "1000 schreiben, und weder 1.000 noch 1,000.",
+    },
+};
+
+pub static R06: Entry = Entry {
+    code: FaultCode::R06,
+    title: Message {
+        english: "number out of range",
+        german: "Zahl außerhalb der Grenzen",
+    },
+    meaning: Message {
+        english: "A number is greater or smaller than it may be (docs/limits.md), or a winner has more first votes than there are.",
+        german: "Eine Zahl ist größer oder kleiner, als sie sein darf (docs/limits.md), oder ein Wahlkreissieger hat mehr Erststimmen, als es gibt.",
+    },
+    example: "house,,,0,,",
+    remedy: Message {
+        english: "Look for exchanged columns, and for a digit too many.",
+        german: "Nach vertauschten Spalten suchen, und nach einer Ziffer zu viel.",
+    },
+};
+
+pub static R07: Entry = Entry {
+    code: FaultCode::R07,
+    title: Message {
+        english: "name that is not declared",
+        german: "Name, der nicht angegeben ist",
+    },
+    meaning: Message {
+        english: "A record names a Land, a party or a constituency of which no record above it tells.",
+        german: "Ein Datensatz nennt ein Land, eine Partei oder einen Wahlkreis, von dem kein Datensatz darüber spricht.",
+    },
+    example: "list,Y,A,5,5,",
+    remedy: Message {
+        english: "Check the spelling, and put the records that declare a name above those that use it.",
+        german: "Die Schreibweise prüfen, und die Datensätze, die einen Namen angeben, über die setzen, die ihn nennen.",
+    },
+};
+
+pub static R08: Entry = Entry {
+    code: FaultCode::R08,
+    title: Message {
+        english: "something that is given twice",
+        german: "etwas, das zweimal angegeben ist",
+    },
+    meaning: Message {
+        english: "A name, the house, a list or a lot is given a second time.",
+        german: "Ein Name, das Haus, eine Liste oder ein Los ist ein zweites Mal angegeben.",
+    },
+    example: "land,X,,2000,,",
+    remedy: Message {
+        english: "Delete one of the two records; a row of sums may have been copied.",
+        german: "Einen der beiden Datensätze löschen; vielleicht wurde eine Summenzeile mitkopiert.",
+    },
+};
+
+pub static R09: Entry = Entry {
+    code: FaultCode::R09,
+    title: Message {
+        english: "more counted votes than valid votes",
+        german: "mehr gezählte als gültige Stimmen",
+    },
+    meaning: Message {
+        english: "Of the valid votes of a list, column a, at most all are counted, column b.",
+        german: "Von den gültigen Stimmen einer Liste, Spalte a, werden höchstens alle gezählt, Spalte b.",
+    },
+    example: "list,X,A,5,6,",
+    remedy: Message {
+        english: "Exchange the columns a and b, or correct them.",
+        german: "Die Spalten a und b vertauschen, oder sie berichtigen.",
+    },
+};
+
+pub static R10: Entry = Entry {
+    code: FaultCode::R10,
+    title: Message {
+        english: "too many records of a kind",
+        german: "zu viele Datensätze einer Art",
+    },
+    meaning: Message {
+        english: "Returns have at most 64 Länder, 256 parties, 2000 winners and 4000 lots.",
+        german: "Wahlergebnisse haben höchstens 64 Länder, 256 Parteien, 2000 Wahlkreissieger und 4000 Lose.",
+    },
+    example: "land,L65,,1000,,",
+    remedy: Message {
+        english: "Check whether the file has records twice, or those of several elections.",
+        german: "Prüfen, ob die Datei Datensätze doppelt hat, oder die mehrerer Wahlen.",
+    },
+};
+
+pub static R11: Entry = Entry {
+    code: FaultCode::R11,
+    title: Message {
+        english: "no Land",
+        german: "kein Land",
+    },
+    meaning: Message {
+        english: "The returns have no `land` record.",
+        german: "Die Wahlergebnisse haben keinen `land`-Datensatz.",
+    },
+    example: "kind,land,party,a,b,c",
+    remedy: Message {
+        english: "Give at least one Land, as `land,NAME,,PEOPLE,,`.",
+        german: "Mindestens ein Land angeben, wie `land,NAME,,EINWOHNER,,`.",
+    },
+};
+
+pub static R12: Entry = Entry {
+    code: FaultCode::R12,
+    title: Message {
+        english: "returns too long",
+        german: "zu lange Wahlergebnisse",
+    },
+    meaning: Message {
+        english: "Returns have at most 4,194,304 bytes.",
+        german: "Wahlergebnisse haben höchstens 4.194.304 Bytes.",
+    },
+    example: "refused returns toolong",
+    remedy: Message {
+        english: "Check whether it is the right file: an election of the Bundestag has some 1,000 records.",
+        german: "Prüfen, ob es die richtige Datei ist: Eine Bundestagswahl hat rund 1.000 Datensätze.",
+    },
+};
+
+// ---- legal faults
+
+pub static L01: Entry = Entry {
+    code: FaultCode::L01,
+    title: Message {
+        english: "too many seats in a scope",
+        german: "zu viele Sitze in einem Bereich",
+    },
+    meaning: Message {
+        english: "A stage would distribute more than 4000 seats in one scope.",
+        german: "Eine Stufe würde in einem Bereich mehr als 4000 Sitze verteilen.",
+    },
+    example: "fault upper all limit",
+    remedy: Message {
+        english: "In a rulebook of your own, distribute fewer seats there: sums of `larger` columns can be so great. No statute of the library ends so.",
+        german: "In einem eigenen Regelwerk dort weniger Sitze verteilen: Summen von `larger`-Spalten können so groß sein. Kein Gesetz der Bibliothek endet so.",
+    },
+};
+
+pub static L02: Entry = Entry {
+    code: FaultCode::L02,
+    title: Message {
+        english: "minima greater than the seats",
+        german: "Mindestzahlen größer als die Sitze",
+    },
+    meaning: Message {
+        english: "The minima (`atleast`) of a scope sum to more than its seats.",
+        german: "Die Mindestzahlen (`atleast`) eines Bereichs ergeben mehr als seine Sitze.",
+    },
+    example: "fault lower party Reds short",
+    remedy: Message {
+        english: "Compare the number of winners with the official list. In a rulebook of your own, distribute more seats there, or write `grow` in place of `split`.",
+        german: "Die Zahl der Wahlkreissieger mit der amtlichen Liste vergleichen. In einem eigenen Regelwerk dort mehr Sitze verteilen, oder `grow` statt `split` schreiben.",
+    },
+};
+
+pub static L03: Entry = Entry {
+    code: FaultCode::L03,
+    title: Message {
+        english: "seats without votes",
+        german: "Sitze ohne Stimmen",
+    },
+    meaning: Message {
+        english: "A scope has seats to distribute, and no entry that takes part in it has votes.",
+        german: "Ein Bereich hat Sitze zu vergeben, und niemand, der in ihm teilnimmt, hat Stimmen.",
+    },
+    example: "fault first land South nolist",
+    remedy: Message {
+        english: "Check whether lists of that Land or party are missing or have no counted votes, and whether their parties meet `eligible`.",
+        german: "Prüfen, ob Listen dieses Landes oder dieser Partei fehlen oder keine gezählten Stimmen haben, und ob ihre Parteien `eligible` erfüllen.",
+    },
+};
+
+pub static L04: Entry = Entry {
+    code: FaultCode::L04,
+    title: Message {
+        english: "tie",
+        german: "Gleichstand",
+    },
+    meaning: Message {
+        english: "More entries have equal claims than there are seats for them, and the lots of the returns do not decide among them.",
+        german: "Mehr Einträge haben gleiche Ansprüche, als es für sie Sitze gibt, und die Lose der Wahlergebnisse entscheiden nicht zwischen ihnen.",
+    },
+    example: "fault council all tie 2 Town/Reds Town/Blues Town/Greens",
+    remedy: Message {
+        english: "Have the lot drawn by the person the statute designates. Write a `lot` record for each of the tied entries into the returns, the first drawn at the top, and count again. The explanation has the records.",
+        german: "Das Los ziehen lassen, wie das Gesetz es bestimmt. Für jeden der gleichen Einträge einen `lot`-Datensatz in die Wahlergebnisse schreiben, der zuerst Gezogene oben, und noch einmal zählen. Die Erklärung hat die Datensätze.",
+    },
+};
+
+pub static L05: Entry = Entry {
+    code: FaultCode::L05,
+    title: Message {
+        english: "majority of votes without a majority of seats",
+        german: "Mehrheit der Stimmen ohne Mehrheit der Sitze",
+    },
+    meaning: Message {
+        english: "An entry with more than half of the votes of a scope would get no more than half of its seats, and the rulebook says `majority refuse`.",
+        german: "Wer mehr als die Hälfte der Stimmen eines Bereichs hat, erhielte nicht mehr als die Hälfte seiner Sitze, und das Regelwerk sagt `majority refuse`.",
+    },
+    example: "fault upper all majority",
+    remedy: Message {
+        english: "Correct returns cannot change this. The statutes from 2008 on give the party further seats, up to more than half (Mehrheitsklausel), and a rulebook cannot say so. Without `majority refuse` it shows the seats before that; add the further ones by hand.",
+        german: "Richtige Wahlergebnisse können daran nichts ändern. Die Gesetze seit 2008 geben der Partei weitere Sitze, bis es mehr als die Hälfte sind (Mehrheitsklausel), und ein Regelwerk kann das nicht sagen. Ohne `majority refuse` zeigt es die Sitze davor; die weiteren zählt man von Hand dazu.",
+    },
+};
+
+pub static L06: Entry = Entry {
+    code: FaultCode::L06,
+    title: Message {
+        english: "growth that reaches its cap",
+        german: "Wachstum, das seine Obergrenze erreicht",
+    },
+    meaning: Message {
+        english: "No house up to the cap of a growth gives every entry its minimum.",
+        german: "Kein Haus bis zur Obergrenze eines Wachstums gibt allen ihre Mindestzahl.",
+    },
+    example: "fault upper all cap",
+    remedy: Message {
+        english: "Look for a party with many winners and few votes: mostly a number is wrong. In a rulebook of your own, raise the cap, up to 4000.",
+        german: "Nach einer Partei mit vielen Wahlkreissiegern und wenigen Stimmen suchen: Meist ist eine Zahl falsch. In einem eigenen Regelwerk die Obergrenze erhöhen, bis 4000.",
+    },
+};
+
+// ---- faults of code files, and of their runs
+
+// What to do about a file that was changed on its way.
+const AGAIN: Message = Message {
+    english: "Write the file again from its rulebook: `seatlaw code book.law book.slc`. A file that `code` has written and nobody has changed is never refused.",
+    german: "Die Datei aus ihrem Regelwerk neu schreiben: `seatlaw code book.law book.slc`. Eine Datei, die `code` schrieb und niemand änderte, wird nie abgelehnt.",
+};
+
+pub static C01: Entry = Entry {
+    code: FaultCode::C01,
+    title: Message {
+        english: "no code file",
+        german: "keine Codedatei",
+    },
+    meaning: Message {
+        english: "A code file begins with the letters SLC.",
+        german: "Eine Codedatei beginnt mit den Buchstaben SLC.",
+    },
+    example: "refused code file 1 0",
+    remedy: Message {
+        english: "Count a rulebook by `count`. The order of the words of `run` is CODE, then RETURNS.",
+        german: "Ein Regelwerk mit `count` zählen. Die Reihenfolge der Wörter von `run` ist CODE, dann RETURNS.",
+    },
+};
+
+pub static C02: Entry = Entry {
+    code: FaultCode::C02,
+    title: Message {
+        english: "unknown version of the format",
+        german: "unbekannte Version des Formats",
+    },
+    meaning: Message {
+        english: "The version of the format is 1.",
+        german: "Die Version des Formats ist 1.",
+    },
+    example: "refused code file 2 3",
+    remedy: AGAIN,
+};
+
+pub static C03: Entry = Entry {
+    code: FaultCode::C03,
+    title: Message {
+        english: "byte without a meaning",
+        german: "Byte ohne Bedeutung",
+    },
+    meaning: Message {
+        english: "A byte of the code file has no meaning at its place.",
+        german: "Ein Byte der Codedatei hat an seiner Stelle keine Bedeutung.",
+    },
+    example: "refused code file 3 16",
+    remedy: AGAIN,
+};
+
+pub static C04: Entry = Entry {
+    code: FaultCode::C04,
+    title: Message {
+        english: "code file cut short",
+        german: "abgeschnittene Codedatei",
+    },
+    meaning: Message {
+        english: "The code file ends where a byte is needed.",
+        german: "Die Codedatei endet, wo ein Byte gebraucht wird.",
+    },
+    example: "refused code file 4 120",
+    remedy: AGAIN,
+};
+
+pub static C05: Entry = Entry {
+    code: FaultCode::C05,
+    title: Message {
+        english: "bytes after the code",
+        german: "Bytes hinter dem Code",
+    },
+    meaning: Message {
+        english: "The code file goes on after the end of the code.",
+        german: "Die Codedatei geht hinter dem Ende des Codes weiter.",
+    },
+    example: "refused code file 5 420",
+    remedy: AGAIN,
+};
+
+pub static C06: Entry = Entry {
+    code: FaultCode::C06,
+    title: Message {
+        english: "too many stages, slots or instructions",
+        german: "zu viele Stufen, Spalten oder Befehle",
+    },
+    meaning: Message {
+        english: "A code has at most 32 stages, 200 slots and 200,000 instructions.",
+        german: "Ein Code hat höchstens 32 Stufen, 200 Spalten und 200.000 Befehle.",
+    },
+    example: "refused code file 6 4",
+    remedy: AGAIN,
+};
+
+pub static C07: Entry = Entry {
+    code: FaultCode::C07,
+    title: Message {
+        english: "jump without a declaration",
+        german: "Sprung ohne Erklärung",
+    },
+    meaning: Message {
+        english: "An instruction jumps to a place at which no declaration says what is known there.",
+        german: "Ein Befehl springt an eine Stelle, an der keine Erklärung sagt, was dort bekannt ist.",
+    },
+    example: "refused code verify 1 12",
+    remedy: AGAIN,
+};
+
+pub static C08: Entry = Entry {
+    code: FaultCode::C08,
+    title: Message {
+        english: "register that does not exist",
+        german: "Register, das es nicht gibt",
+    },
+    meaning: Message {
+        english: "The machine has 16 registers, and an instruction names another one.",
+        german: "Die Maschine hat 16 Register, und ein Befehl nennt ein anderes.",
+    },
+    example: "refused code verify 2 12",
+    remedy: AGAIN,
+};
+
+pub static C09: Entry = Entry {
+    code: FaultCode::C09,
+    title: Message {
+        english: "register or cursor that is not known",
+        german: "Register oder Zeiger, der nicht bekannt ist",
+    },
+    meaning: Message {
+        english: "An instruction needs a register that is not 0, or a cursor that is set, and that is not known at its place.",
+        german: "Ein Befehl braucht ein Register, das nicht 0 ist, oder einen gesetzten Zeiger, und das ist an seiner Stelle nicht bekannt.",
+    },
+    example: "refused code verify 3 12",
+    remedy: AGAIN,
+};
+
+pub static C10: Entry = Entry {
+    code: FaultCode::C10,
+    title: Message {
+        english: "column or stage that does not exist",
+        german: "Spalte oder Stufe, die es nicht gibt",
+    },
+    meaning: Message {
+        english: "An instruction names a column or a stage that does not exist, or a column of another shape.",
+        german: "Ein Befehl nennt eine Spalte oder Stufe, die es nicht gibt, oder eine Spalte anderer Form.",
+    },
+    example: "refused code verify 4 12",
+    remedy: AGAIN,
+};
+
+pub static C11: Entry = Entry {
+    code: FaultCode::C11,
+    title: Message {
+        english: "wrong priority table",
+        german: "falsche Rangtabelle",
+    },
+    meaning: Message {
+        english: "An instruction needs another priority table than the one at its place.",
+        german: "Ein Befehl braucht eine andere Rangtabelle als die an seiner Stelle.",
+    },
+    example: "refused code verify 5 12",
+    remedy: AGAIN,
+};
+
+pub static C12: Entry = Entry {
+    code: FaultCode::C12,
+    title: Message {
+        english: "paths that do not agree",
+        german: "Wege, die nicht übereinstimmen",
+    },
+    meaning: Message {
+        english: "Two paths meet at an instruction with different knowledge, or no path reaches it.",
+        german: "Bei einem Befehl treffen sich zwei Wege mit ungleichem Wissen, oder kein Weg führt hin.",
+    },
+    example: "refused code verify 6 12",
+    remedy: AGAIN,
+};
+
+pub static C13: Entry = Entry {
+    code: FaultCode::C13,
+    title: Message {
+        english: "code that runs off its end",
+        german: "Code, der über sein Ende hinausläuft",
+    },
+    meaning: Message {
+        english: "The last instruction goes on, and nothing stands after it.",
+        german: "Der letzte Befehl geht weiter, und hinter ihm steht nichts.",
+    },
+    example: "refused code verify 7 12",
+    remedy: AGAIN,
+};
+
+pub static C14: Entry = Entry {
+    code: FaultCode::C14,
+    title: Message {
+        english: "code file too long",
+        german: "zu lange Codedatei",
+    },
+    meaning: Message {
+        english: "A code file has at most 4,194,304 bytes.",
+        german: "Eine Codedatei hat höchstens 4.194.304 Bytes.",
+    },
+    example: "refused code toolong",
+    remedy: Message {
+        english: "Check whether it is the right file, or write it again from its rulebook: `seatlaw code book.law book.slc`.",
+        german: "Prüfen, ob es die richtige Datei ist, oder sie aus ihrem Regelwerk neu schreiben: `seatlaw code book.law book.slc`.",
+    },
+};
+
+pub static C15: Entry = Entry {
+    code: FaultCode::C15,
+    title: Message {
+        english: "run of too many steps",
+        german: "Lauf mit zu vielen Schritten",
+    },
+    meaning: Message {
+        english: "The run of the code file takes more steps than that of any rulebook, and was stopped.",
+        german: "Der Lauf der Codedatei braucht mehr Schritte als der jedes Regelwerks und wurde abgebrochen.",
+    },
+    example: "out of budget",
+    remedy: Message {
+        english: "Write the file from a rulebook: `seatlaw code book.law book.slc`.",
+        german: "Die Datei aus einem Regelwerk schreiben: `seatlaw code book.law book.slc`.",
     },
 };

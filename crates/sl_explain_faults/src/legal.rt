@@ -6,136 +6,16 @@ ghost use Rattle.sl_explain_faults.specs.Codes.{legal_code};
 
 use crate::counts::{Burden, Sums, heaviest, majority_party, population, sums_of, winners_in};
 use crate::lots::add_lots;
+use crate::texts::{
+    CAP, COMPARE, FEWER_SEATS, HALF, HEAVIEST, LIMIT, LIST, LISTS, MAJORITY, MORE_SEATS, NO_LIST,
+    NO_PEOPLE, NO_RECORD, NO_RULE, NO_VOTES, NOBODY, RAISE_CAP, SEAT, SEATS, SHORT, TIE, WINNER,
+    WINNERS,
+};
 use crate::words::{item_words, party_name, scope_words, stage_name};
 use sl_explain_texts::{Explanation, FaultCode, Language, Message, Sentence, Speaker};
 use sl_ratio::NoMemory;
 use sl_stages::{FaultKind, Item, LegalFault, MAX_SEATS, Returns, Scope};
 use std::alloc::Global;
-
-// What happened; values: the stage, the scope and the most seats, or for a tie the stage, the scope, the seats in words, the number of entries and their
-// names.
-const TIE: Sentence = Sentence {
-    code: FaultCode::L04,
-    english: "stage `$`, $: for $ there are $ equal claims, those of $; a lot has to decide",
-    german: "Stufe `$`, $: Für $ gibt es $ gleiche Ansprüche, die von $; ein Los muss entscheiden",
-};
-
-// Numbers of things.
-const SEAT: Message = Message {
-    english: "$ seat",
-    german: "$ Sitz",
-};
-
-const SEATS: Message = Message {
-    english: "$ seats",
-    german: "$ Sitze",
-};
-
-const WINNER: Message = Message {
-    english: "$ winner",
-    german: "$ Wahlkreissieger",
-};
-
-const LIST: Message = Message {
-    english: "$ list",
-    german: "$ Liste",
-};
-
-const LISTS: Message = Message {
-    english: "$ lists",
-    german: "$ Listen",
-};
-
-const LIMIT: Sentence = Sentence {
-    code: FaultCode::L01,
-    english: "stage `$`, $: there are more than $ seats to distribute",
-    german: "Stufe `$`, $: Es sind mehr als $ Sitze zu vergeben",
-};
-
-const SHORT: Sentence = Sentence {
-    code: FaultCode::L02,
-    english: "stage `$`, $: the minima (`atleast`) need more seats than there are to distribute",
-    german: "Stufe `$`, $: Die Mindestzahlen (`atleast`) verlangen mehr Sitze, als zu vergeben sind",
-};
-
-const NO_LIST: Sentence = Sentence {
-    code: FaultCode::L03,
-    english: "stage `$`, $: there are seats to distribute, and no entry that takes part has votes",
-    german: "Stufe `$`, $: Es sind Sitze zu vergeben, und niemand, der teilnimmt, hat Stimmen",
-};
-
-const MAJORITY: Sentence = Sentence {
-    code: FaultCode::L05,
-    english: "stage `$`, $: an entry with more than half of the votes would get no more than half of the seats, and the rulebook has no rule for it",
-    german: "Stufe `$`, $: Wer mehr als die Hälfte der Stimmen hat, erhielte nicht mehr als die Hälfte der Sitze; dafür hat das Regelwerk keine Regel",
-};
-
-const CAP: Sentence = Sentence {
-    code: FaultCode::L06,
-    english: "stage `$`, $: no house up to the cap gives every entry its minimum",
-    german: "Stufe `$`, $: Kein Haus bis zur Obergrenze gibt allen ihre Mindestzahl",
-};
-
-// What to do.
-const FEWER_SEATS: Message = Message {
-    english: "in a rulebook of your own, distribute fewer seats there: sums of `larger` columns can be so great",
-    german: "in einem eigenen Regelwerk dort weniger Sitze vergeben: Summen von `larger`-Spalten können so groß sein",
-};
-
-const MORE_SEATS: Message = Message {
-    english: "in a rulebook of your own, distribute more seats there, or write `grow` in place of `split`",
-    german: "in einem eigenen Regelwerk dort mehr Sitze vergeben, oder `grow` statt `split` schreiben",
-};
-
-const WINNERS: Message = Message {
-    english: "$ winners",
-    german: "$ Wahlkreissieger",
-};
-
-const COMPARE: Message = Message {
-    english: "the returns have $ there; compare their number with the official list",
-    german: "die Wahlergebnisse haben dort $; ihre Zahl mit der amtlichen Liste vergleichen",
-};
-
-const NO_RECORD: Message = Message {
-    english: "the returns have no `list` record there: add one for each list, as `list,LAND,PARTY,VALID,COUNTED,`",
-    german: "die Wahlergebnisse haben dort keinen `list`-Datensatz: für jede Liste einen einfügen, wie `list,LAND,PARTEI,GÜLTIGE,GEZÄHLTE,`",
-};
-
-const NO_VOTES: Message = Message {
-    english: "$ there, without counted votes: correct column b of the `list` records",
-    german: "$ dort, ohne gezählte Stimmen: Spalte b der `list`-Datensätze berichtigen",
-};
-
-const NOBODY: Message = Message {
-    english: "$ there, with $ counted votes in all: maybe no party of these meets `eligible` of the rulebook; compare the valid votes (column a)",
-    german: "$ dort, mit zusammen $ gezählten Stimmen: Vielleicht erfüllt keine Partei davon `eligible` des Regelwerks; gültige Stimmen (Spalte a) vergleichen",
-};
-
-const NO_PEOPLE: Message = Message {
-    english: "each Land has the population 0: write the people into column a of the `land` records",
-    german: "jedes Land hat 0 Einwohner: die Einwohner in Spalte a der `land`-Datensätze schreiben",
-};
-
-const HALF: Message = Message {
-    english: "party `$` has $ of the $ counted votes there",
-    german: "die Partei `$` hat $ der $ gezählten Stimmen dort",
-};
-
-const NO_RULE: Message = Message {
-    english: "correct returns cannot change this: the statutes from 2008 on give the party further seats, up to more than half (Mehrheitsklausel), and a rulebook cannot say so; without `majority refuse` it shows the seats before that, and the further ones are added by hand",
-    german: "richtige Wahlergebnisse können daran nichts ändern: Die Gesetze seit 2008 geben der Partei weitere Sitze, bis es mehr als die Hälfte sind (Mehrheitsklausel), und ein Regelwerk kann das nicht sagen; ohne `majority refuse` zeigt es die Sitze davor, und die weiteren zählt man von Hand dazu",
-};
-
-const HEAVIEST: Message = Message {
-    english: "the $ has the most winners for its votes: $ for $ counted votes; correct one of the two, if it is wrong",
-    german: "die $ hat die meisten Wahlkreissieger für ihre Stimmen: $ bei $ gezählten; eines von beiden berichtigen, wenn es falsch ist",
-};
-
-const RAISE_CAP: Message = Message {
-    english: "in a rulebook of your own, raise the last number of `grow`, up to $",
-    german: "in einem eigenen Regelwerk die letzte Zahl von `grow` erhöhen, bis $",
-};
 
 // What is said of lists that win nothing.
 fn votes_message(sums: Sums) -> &'static Message {

@@ -10,6 +10,7 @@ mod code_files;
 mod counts;
 mod legal;
 mod lots;
+mod texts;
 mod words;
 
 pub use code_files::{explain_budget, explain_code_bytes, explain_code_kinds, explain_long_code};

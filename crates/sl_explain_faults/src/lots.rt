@@ -2,54 +2,14 @@
 
 ghost use Rattle.std.specs.Prelude.{◌≡◌};
 
+use crate::texts::{
+    DRAW, MISSING, NEAR_STAGE, NO_STAGE, NOT_LANDS, NOT_LISTS, NOT_PARTIES, NOT_WINNERS,
+};
 use crate::words::{item_words, land_name, party_name, stage_name, stage_words, win_name};
 use sl_explain_texts::{Explanation, Message, Speaker, nearest};
 use sl_ratio::NoMemory;
 use sl_stages::{FaultKind, Item, LegalFault, Lot, Returns};
 use std::alloc::Global;
-
-// What to do.
-const DRAW: Message = Message {
-    english: "have the lot drawn by the person the statute designates; then write one record for each into the returns, in the order of the lot and not of this list, the first drawn at the top:",
-    german: "das Los ziehen lassen, wie das Gesetz es bestimmt; dann für jeden eine Zeile in die Wahlergebnisse, in der Reihenfolge des Loses und nicht dieser Liste, der zuerst Gezogene oben:",
-};
-
-// Lots without an effect; values: their number, the stage that they name, and what is meant.
-const NEAR_STAGE: Message = Message {
-    english: "lots without an effect: $, of a stage `$` that the rulebook lacks; did you mean `$`?",
-    german: "Lose ohne Wirkung: $, von einer Stufe `$`, die das Regelwerk nicht hat; war `$` gemeint?",
-};
-
-const NO_STAGE: Message = Message {
-    english: "lots without an effect: $, of a stage `$` that the rulebook lacks; it has $",
-    german: "Lose ohne Wirkung: $, von einer Stufe `$`, die das Regelwerk nicht hat; es hat $",
-};
-
-// Lots of the stage of the tie without an effect; the value is their number.
-const NOT_PARTIES: Message = Message {
-    english: "lots without an effect: $ of this stage; it is between parties, so a lot has no Land and no constituency",
-    german: "Lose ohne Wirkung: $ dieser Stufe; es geht um Parteien: Ein Los hat kein Land und keinen Wahlkreis",
-};
-
-const NOT_LANDS: Message = Message {
-    english: "lots without an effect: $ of this stage; it is between Länder, so a lot has no party",
-    german: "Lose ohne Wirkung: $ dieser Stufe; es geht um Länder: Ein Los hat keine Partei",
-};
-
-const NOT_LISTS: Message = Message {
-    english: "lots without an effect: $ of this stage; it is between lists, so a lot has both a Land and a party",
-    german: "Lose ohne Wirkung: $ dieser Stufe; es geht um Listen: Ein Los hat ein Land und eine Partei",
-};
-
-const NOT_WINNERS: Message = Message {
-    english: "lots without an effect: $ of `seats`; a lot has the constituency, and the Land and the party of its `win` record",
-    german: "Lose ohne Wirkung: $ von `seats`; ein Los hat den Wahlkreis, und Land und Partei seines `win`-Datensatzes",
-};
-
-const MISSING: Message = Message {
-    english: "the lots of this stage name only some of the tied entries, and so have no effect; also name $",
-    german: "die Lose dieser Stufe nennen nur einige der Gleichen und bleiben ohne Wirkung; auch zu nennen: $",
-};
 
 // Whether a lot gives a winner by the Land and the party of the winner.
 fn gives_winner(returns: &Returns, lot: &Lot, win: usize) -> bool {

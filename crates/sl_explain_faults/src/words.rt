@@ -1,28 +1,9 @@
 //! The names of what a legal fault speaks of.
 
-use sl_explain_texts::{Message, Speaker, append};
+use crate::texts::{ALL, LAND, LIST_OF, PARTY};
+use sl_explain_texts::{Speaker, append};
 use sl_ratio::NoMemory;
 use sl_stages::{Item, Returns, Scope};
-
-const ALL: Message = Message {
-    english: "whole country",
-    german: "ganzes Bundesgebiet",
-};
-
-const LAND: Message = Message {
-    english: "Land `$`",
-    german: "Land `$`",
-};
-
-const PARTY: Message = Message {
-    english: "party `$`",
-    german: "Partei `$`",
-};
-
-const LIST: Message = Message {
-    english: "list of `$` in `$`",
-    german: "Liste von `$` in `$`",
-};
 
 // How many names a sentence has at most.
 const NAMED: usize = 12;
@@ -65,7 +46,7 @@ pub fn scope_words(speaker: Speaker, returns: &Returns, scope: Scope) -> Result<
         Scope::Party(party) => speaker.text(&PARTY, &[party_name(returns, party)]),
         Scope::List(land, party) => {
             let names = [party_name(returns, party), land_name(returns, land)];
-            speaker.text(&LIST, &names)
+            speaker.text(&LIST_OF, &names)
         }
     }
 }

@@ -2,20 +2,11 @@
 
 ghost use Rattle.std.specs.Prelude.{◌≡◌, IfOk, Some};
 
+use crate::texts::{CELL, CELLS};
 use sl_explain_texts::{Explanation, FaultCode, Message, Span, Speaker, line_at};
 use sl_ratio::NoMemory;
 use sl_returns::{COLUMNS, Content, KIND, Kind, RecordAtFault, cell_place, find_record};
 use sl_stages::Returns;
-
-const CELL: Message = Message {
-    english: "$ cell",
-    german: "$ Zelle",
-};
-
-const CELLS: Message = Message {
-    english: "$ cells",
-    german: "$ Zellen",
-};
 
 /// A refused record, the text that it stands in with the returns of all its records that were taken, and the person who is spoken to.
 #[derive(Clone, Copy)]

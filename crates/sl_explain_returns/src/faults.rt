@@ -12,43 +12,13 @@ use crate::kinds::{explain_kind, explain_no_land};
 use crate::names::{explain_name, naming_at};
 use crate::numbers::{explain_first, explain_number, explain_range, quantity_at};
 use crate::quotes::explain_quote;
+use crate::texts::{END_OTHERS, OUT_OF_MEMORY, RECORD, RIGHT_FILE, TABLE, TOO_LONG};
 use crate::twice::{explain_counted, explain_too_many, explain_twice};
 use crate::unknown::{explain_unknown, known_name_at};
-use sl_explain_texts::{Explanation, FaultCode, Language, Message, Sentence, Speaker};
+use sl_explain_texts::{Explanation, FaultCode, Language, Speaker};
 use sl_ratio::NoMemory;
 use sl_returns::{FaultKind, RefusedReturns, ReturnsFault};
 use std::alloc::Global;
-
-const RECORD: Message = Message {
-    english: "record $ of the returns is refused",
-    german: "Datensatz $ der Wahlergebnisse wird abgelehnt",
-};
-
-const TABLE: Message = Message {
-    english: "docs/returns.md has the records by example, and the tests of each",
-    german: "docs/returns.md zeigt die Datensätze an Beispielen, und was an jedem geprüft wird",
-};
-
-const OUT_OF_MEMORY: Message = Message {
-    english: "memory ran out while the returns were read",
-    german: "beim Lesen der Wahlergebnisse ging der Speicher aus",
-};
-
-const END_OTHERS: Message = Message {
-    english: "end other programs, and run the command again",
-    german: "andere Programme beenden, und den Befehl noch einmal ausführen",
-};
-
-const TOO_LONG: Sentence = Sentence {
-    code: FaultCode::R12,
-    english: "the returns have more than 4,194,304 bytes",
-    german: "die Wahlergebnisse haben mehr als 4.194.304 Bytes",
-};
-
-const RIGHT_FILE: Message = Message {
-    english: "is it the right file? An election of the Bundestag has some 1,000 records, in less than 50,000 bytes",
-    german: "ist es die richtige Datei? Eine Bundestagswahl hat rund 1.000 Datensätze, in weniger als 50.000 Bytes",
-};
 
 // The code of a fault of returns, if it is one.
 fn code_of(kind: FaultKind) -> Option<FaultCode>

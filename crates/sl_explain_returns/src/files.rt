@@ -3,80 +3,12 @@
 ghost use Rattle.std.specs.Prelude.{◌≡◌, IfOk, Some};
 ghost use Rattle.sl_explain_texts.specs.declared.code.FaultCode.TheVariants.{R01};
 
+use crate::texts::{
+    BINARY, BOOK, CODE, EMPTY_FILE, NO_PATH, ORDER, PACKED, RUN, SAVE, SAVE_OR_UNPACK, UNPACK,
+    UTF16, WORKBOOK, ZIPPED,
+};
 use sl_explain_texts::{Explanation, FaultCode, Message, Span, Speaker, first_line, packing_of};
 use sl_ratio::NoMemory;
-
-// What is said.
-const EMPTY: Message = Message {
-    english: "the file of the returns is empty",
-    german: "die Datei mit den Wahlergebnissen ist leer",
-};
-
-const UTF16: Message = Message {
-    english: "the file of the returns is in UTF-16, which some programs call \"Unicode\"",
-    german: "die Datei mit den Wahlergebnissen ist in UTF-16, das manche Programme „Unicode“ nennen",
-};
-
-const ZIPPED: Message = Message {
-    english: "the file of the returns is compressed (zip): a workbook (.xlsx, .ods) or an archive, and no CSV file",
-    german: "die Datei mit den Wahlergebnissen ist komprimiert (zip): eine Arbeitsmappe (.xlsx, .ods) oder ein Archiv, keine CSV-Datei",
-};
-
-const PACKED: Message = Message {
-    english: "the file of the returns is compressed ($)",
-    german: "die Datei mit den Wahlergebnissen ist komprimiert ($)",
-};
-
-const WORKBOOK: Message = Message {
-    english: "the file of the returns is a workbook (.xls), and no CSV file",
-    german: "die Datei mit den Wahlergebnissen ist eine Arbeitsmappe (.xls), keine CSV-Datei",
-};
-
-const BINARY: Message = Message {
-    english: "the file of the returns is no text: it has a byte 0",
-    german: "die Datei mit den Wahlergebnissen ist kein Text: Sie hat ein Byte 0",
-};
-
-const CODE: Message = Message {
-    english: "the file of the returns is a code file",
-    german: "die Datei mit den Wahlergebnissen ist eine Codedatei",
-};
-
-const BOOK: Message = Message {
-    english: "the file of the returns is a rulebook",
-    german: "die Datei mit den Wahlergebnissen ist ein Regelwerk",
-};
-
-// What to do.
-const NO_PATH: Message = Message {
-    english: "give the path of a file that begins with the line `kind,land,party,a,b,c`; maybe it was not saved",
-    german: "den Pfad einer Datei angeben, die mit der Zeile `kind,land,party,a,b,c` beginnt; vielleicht ist sie nicht gespeichert",
-};
-
-const SAVE: Message = Message {
-    english: "save it as CSV in UTF-8, with commas between the cells",
-    german: "als CSV in UTF-8 speichern, mit Kommas zwischen den Zellen",
-};
-
-const UNPACK: Message = Message {
-    english: "unpack it first",
-    german: "sie zuerst entpacken",
-};
-
-const SAVE_OR_UNPACK: Message = Message {
-    english: "save a workbook as CSV in UTF-8, with commas between the cells; unpack an archive first",
-    german: "eine Arbeitsmappe als CSV in UTF-8 speichern, mit Kommas zwischen den Zellen; ein Archiv zuerst entpacken",
-};
-
-const ORDER: Message = Message {
-    english: "`totals` and `compare` take RETURNS, then BOOK, as in `seatlaw totals returns.csv book.law`; the other commands BOOK, then RETURNS",
-    german: "`totals` und `compare` nehmen RETURNS, dann BOOK, wie in `seatlaw totals returns.csv book.law`; die anderen Befehle BOOK, dann RETURNS",
-};
-
-const RUN: Message = Message {
-    english: "a code file is counted by `run`, CODE, then RETURNS, as in `seatlaw run book.slc returns.csv`",
-    german: "eine Codedatei zählt `run`, CODE, dann RETURNS, wie in `seatlaw run book.slc returns.csv`",
-};
 
 /// What a file is that is no text of cells, by its first bytes.
 #[derive(Clone, Copy)]
@@ -142,7 +74,7 @@ impl FileKind {
     // What is said of such a file, and what to do.
     fn messages(self) -> (&'static Message, &'static Message) {
         match self {
-            FileKind::Empty => (&EMPTY, &NO_PATH),
+            FileKind::Empty => (&EMPTY_FILE, &NO_PATH),
             FileKind::Utf16 => (&UTF16, &SAVE),
             FileKind::Packed("zip") => (&ZIPPED, &SAVE_OR_UNPACK),
             FileKind::Packed(_) => (&PACKED, &UNPACK),

@@ -4,25 +4,10 @@ ghost use Rattle.std.specs.Prelude.{◌≡◌};
 
 use crate::case::Case;
 use crate::faults::explain_record;
-use sl_explain_texts::{Explanation, Message, line_at};
+use crate::texts::{ALSO, LINE, MORE};
+use sl_explain_texts::{Explanation, line_at};
 use sl_ratio::NoMemory;
 use sl_returns::{RefusedRecord, RefusedReturns};
-
-const ALSO: Message = Message {
-    english: "also refused, with these records left out:",
-    german: "auch abgelehnt, wenn man diese Datensätze weglässt:",
-};
-
-// Values: the number of the line, and what is wrong there.
-const LINE: Message = Message {
-    english: "  line $: $",
-    german: "  Zeile $: $",
-};
-
-const MORE: Message = Message {
-    english: "  and $ more",
-    german: "  und $ weitere",
-};
 
 // The number of the line of which an explanation speaks.
 fn line_number(case: &Case<'_>, explanation: &Explanation) -> usize {

@@ -6,121 +6,14 @@ ghost use Rattle.sl_explain_texts.specs.declared.code.FaultCode.TheVariants.{R01
 use crate::case::Case;
 use crate::files::{FileKind, foreign_kind};
 use crate::quotes::explain_quote;
+use crate::texts::{
+    ADD, COUNT, DELETE, EXPECTED, HEADER_COMMENT, HEADER_PIPES, HEADER_SEMICOLONS, HEADER_TABS,
+    HEADER_TRAILING, NO_HEADER, NO_NAMES, NUMBERED, OFFICE, OTHER_HEADER, REPLACE_PIPES,
+    REPLACE_SEMICOLONS, REPLACE_TABS, SEP, SHEETS, SHORTEN_HEADER, SPELLING, WIDE,
+};
 use sl_explain_texts::{Explanation, FaultCode, Message, Span, first_line};
 use sl_ratio::NoMemory;
 use sl_returns::{COLUMNS, KIND, Kind, column_name};
-
-// What is said.
-const SEP: Message = Message {
-    english: "the first line `$` is for a spreadsheet and no header",
-    german: "die erste Zeile `$` ist für eine Tabellenkalkulation und keine Kopfzeile",
-};
-
-const SEMICOLONS: Message = Message {
-    english: "the cells are separated by semicolons, as a German Excel writes them; here they are separated by commas",
-    german: "die Zellen sind durch Semikolons getrennt, wie ein deutsches Excel sie schreibt; verlangt sind Kommas",
-};
-
-const TABS: Message = Message {
-    english: "the cells are separated by tabs; here they are separated by commas",
-    german: "die Zellen sind durch Tabulatoren getrennt; verlangt sind Kommas",
-};
-
-const PIPES: Message = Message {
-    english: "the cells are separated by `|`; here they are separated by commas",
-    german: "die Zellen sind durch `|` getrennt; verlangt sind Kommas",
-};
-
-const OFFICE: Message = Message {
-    english: "this looks like a table of results of the election office, such as kerg.csv or kerg2.csv: its columns are not those of returns",
-    german: "das sieht nach einer Ergebnistabelle der Wahlleitung aus, etwa kerg.csv oder kerg2.csv: Ihre Spalten sind nicht die der Wahlergebnisse",
-};
-
-const WIDE: Message = Message {
-    english: "this looks like a table of a spreadsheet, and not like returns, which have a line for each list",
-    german: "das sieht nach einer Tabelle aus einer Tabellenkalkulation aus, und nicht nach Wahlergebnissen mit einer Zeile je Liste",
-};
-
-const NO_HEADER: Message = Message {
-    english: "the first line is a record, and no header stands before it",
-    german: "die erste Zeile ist ein Datensatz; die Kopfzeile davor fehlt",
-};
-
-const COMMENT: Message = Message {
-    english: "the first line is a comment; there are none in returns",
-    german: "die erste Zeile ist ein Kommentar; Kommentare gibt es in diesen Dateien nicht",
-};
-
-const TRAILING: Message = Message {
-    english: "the header has a comma too many at its end",
-    german: "die Kopfzeile hat am Ende ein Komma zu viel",
-};
-
-const NUMBERED: Message = Message {
-    english: "the header has a column too many at its beginning, as R writes its row names",
-    german: "die Kopfzeile hat am Anfang eine Spalte zu viel, wie R Zeilennamen schreibt",
-};
-
-const SPELLING: Message = Message {
-    english: "the header has blanks or capital letters",
-    german: "die Kopfzeile hat Leerzeichen oder große Buchstaben",
-};
-
-const COUNT: Message = Message {
-    english: "the first line is no header: it has $ in place of six",
-    german: "die erste Zeile ist keine Kopfzeile: Sie hat $ statt sechs",
-};
-
-const OTHER: Message = Message {
-    english: "the first line is no header: `$` stands where `$` must",
-    german: "die erste Zeile ist keine Kopfzeile: `$` steht dort, wo `$` stehen muss",
-};
-
-// What to do.
-const EXPECTED: Message = Message {
-    english: "the first line must be `kind,land,party,a,b,c`, or `kind2,land,party,a,b,c` where lists give the number of names left on them",
-    german: "die erste Zeile muss `kind,land,party,a,b,c` sein, oder `kind2,land,party,a,b,c`, wenn Listen angeben, wie viele Namen auf ihnen übrig sind",
-};
-
-const REPLACE_SEMICOLONS: Message = Message {
-    english: "replace each `;` by `,` in an editor, or save from LibreOffice with the field delimiter `,`; Excel's \"CSV UTF-8\" has semicolons too; tables of a spreadsheet: docs/from-a-spreadsheet.md",
-    german: "in einem Editor jedes `;` durch `,` ersetzen, oder aus LibreOffice mit dem Feldtrenner `,` speichern; auch Excels „CSV UTF-8“ hat Semikolons; Tabellen einer Tabellenkalkulation: docs/from-a-spreadsheet.md",
-};
-
-const REPLACE_TABS: Message = Message {
-    english: "replace each tab by `,` in an editor, or save as CSV with the field delimiter `,`",
-    german: "in einem Editor jeden Tabulator durch `,` ersetzen, oder als CSV mit dem Feldtrenner `,` speichern",
-};
-
-const REPLACE_PIPES: Message = Message {
-    english: "replace each `|` by `,` in an editor, or save as CSV with the field delimiter `,`",
-    german: "in einem Editor jedes `|` durch `,` ersetzen, oder als CSV mit dem Feldtrenner `,` speichern",
-};
-
-const SHEETS: Message = Message {
-    english: "the script `tools/from-spreadsheet` makes returns from two tables, one of votes and one of winners: docs/from-a-spreadsheet.md",
-    german: "das Skript `tools/from-spreadsheet` macht Wahlergebnisse aus zwei Tabellen, einer der Stimmen und einer der Sieger: docs/from-a-spreadsheet.md",
-};
-
-const DELETE: Message = Message {
-    english: "delete the line",
-    german: "die Zeile löschen",
-};
-
-const ADD: Message = Message {
-    english: "write `kind,land,party,a,b,c` as a line before it",
-    german: "davor die Zeile `kind,land,party,a,b,c` schreiben",
-};
-
-const SHORTEN: Message = Message {
-    english: "delete the column in every line: six cells have five commas between them",
-    german: "die Spalte in jeder Zeile löschen: Sechs Zellen haben fünf Kommas zwischen sich",
-};
-
-const NO_NAMES: Message = Message {
-    english: "delete the column in every line; in R: `write.csv(x, file, row.names = FALSE, quote = FALSE, na = \"\")`",
-    german: "die Spalte in jeder Zeile löschen; in R: `write.csv(x, file, row.names = FALSE, quote = FALSE, na = \"\")`",
-};
 
 // Marks that separate cells in place of commas.
 const MARKS: [u8; 3] = [b';', b'\t', b'|'];
@@ -217,13 +110,13 @@ fn mark_messages(line: &[u8], mark: u8) -> (&'static Message, &'static Message) 
     if heads_table(first) {
         (&WIDE, &SHEETS)
     } else if mark == b';' && !begins_returns(first) {
-        (&SEMICOLONS, &SHEETS)
+        (&HEADER_SEMICOLONS, &SHEETS)
     } else if mark == b';' {
-        (&SEMICOLONS, &REPLACE_SEMICOLONS)
+        (&HEADER_SEMICOLONS, &REPLACE_SEMICOLONS)
     } else if mark == b'\t' {
-        (&TABS, &REPLACE_TABS)
+        (&HEADER_TABS, &REPLACE_TABS)
     } else {
-        (&PIPES, &REPLACE_PIPES)
+        (&HEADER_PIPES, &REPLACE_PIPES)
     }
 }
 
@@ -236,7 +129,7 @@ fn foreign_messages(case: &Case<'_>, line: &[u8]) -> Option<(&'static Message, &
         return Some((&SEP, &DELETE));
     }
     if case.text(KIND).starts_with(b"#") {
-        return Some((&COMMENT, &DELETE));
+        return Some((&HEADER_COMMENT, &DELETE));
     }
     match separator_of(line) {
         Some(mark) => Some(mark_messages(line, mark)),
@@ -251,7 +144,7 @@ fn near_messages(case: &Case<'_>) -> Option<(&'static Message, &'static Message)
     if Kind::named(case.text(KIND).trim_ascii()).is_some() {
         Some((&NO_HEADER, &ADD))
     } else if has_seven && case.text(COLUMNS).is_empty() {
-        Some((&TRAILING, &SHORTEN))
+        Some((&HEADER_TRAILING, &SHORTEN_HEADER))
     } else if has_seven && is_nearly(case.text(1), b"kind") {
         Some((&NUMBERED, &NO_NAMES))
     } else if is_misspelt(case) {
@@ -281,7 +174,7 @@ fn explain_other(case: &Case<'_>) -> Result<Explanation, NoMemory>
     let values = [shown.as_slice(), column_name(column)];
     case.explains(
         FaultCode::R01,
-        &OTHER,
+        &OTHER_HEADER,
         &values,
         case.at(column),
         &[&EXPECTED],

@@ -4,66 +4,13 @@ ghost use Rattle.std.specs.Prelude.{◌≡◌, IfOk, Some};
 ghost use Rattle.sl_explain_texts.specs.declared.code.FaultCode.TheVariants.{R03, R11};
 
 use crate::case::Case;
+use crate::texts::{
+    ADD_LAND, AGAIN, DELETE, DELETE_ROWS, EMPTY_ROW, KIND_COMMENT, KINDS, NEAREST_KIND, NO_KIND,
+    NO_LAND_RECORD, OTHER_KIND,
+};
 use sl_explain_texts::{Explanation, FaultCode, Message, nearest};
 use sl_ratio::NoMemory;
 use sl_returns::{COLUMNS, KIND, Kind};
-
-// What is said; the value is the first cell.
-const EMPTY_ROW: Message = Message {
-    english: "a row of empty cells is no record",
-    german: "eine Zeile aus leeren Zellen ist kein Datensatz",
-};
-
-const NO_KIND: Message = Message {
-    english: "the first cell is empty: it names the kind of the record",
-    german: "die erste Zelle ist leer: Sie nennt die Art des Datensatzes",
-};
-
-const AGAIN: Message = Message {
-    english: "the header stands a second time",
-    german: "die Kopfzeile steht ein zweites Mal da",
-};
-
-const COMMENT: Message = Message {
-    english: "`$` is no kind of record; there are no comments in returns",
-    german: "`$` ist keine Art von Datensatz; Kommentare gibt es in diesen Dateien nicht",
-};
-
-const OTHER: Message = Message {
-    english: "`$` is no kind of record",
-    german: "`$` ist keine Art von Datensatz",
-};
-
-// What to do.
-const DELETE_ROWS: Message = Message {
-    english: "delete the row, and those like it: a spreadsheet writes them where cells were emptied; delete rows there, not contents",
-    german: "diese und gleiche Zeilen löschen: Eine Tabellenkalkulation schreibt sie für geleerte Zellen; dort ganze Zeilen löschen",
-};
-
-const DELETE: Message = Message {
-    english: "delete the line",
-    german: "die Zeile löschen",
-};
-
-const NEAREST: Message = Message {
-    english: "did you mean `$`? The kinds are written in small letters, without blanks",
-    german: "war `$` gemeint? Die Arten stehen in kleinen Buchstaben, ohne Leerzeichen",
-};
-
-const KINDS: Message = Message {
-    english: "a record begins with `house`, `land`, `party`, `list`, `win` or `lot`; rows of sums and notes are deleted",
-    german: "ein Datensatz beginnt mit `house`, `land`, `party`, `list`, `win` oder `lot`; Summenzeilen und Notizen löschen",
-};
-
-const NO_LAND: Message = Message {
-    english: "the returns have no `land` record",
-    german: "die Datei hat keinen `land`-Datensatz",
-};
-
-const ADD_LAND: Message = Message {
-    english: "add a line for each Land before its lists: `land,NAME,,POPULATION,,`",
-    german: "für jedes Land eine Zeile vor seinen Listen einfügen: `land,NAME,,EINWOHNER,,`",
-};
 
 // Other words for the kinds, in small letters, and the kinds that they mean.
 const WORDS: [(&[u8], &[u8]); 18] = [
@@ -125,9 +72,9 @@ fn sentence(case: &Case<'_>) -> &'static Message {
     } else if cell == b"kind".as_slice() || cell == b"kind2".as_slice() {
         &AGAIN
     } else if cell.starts_with(b"#") {
-        &COMMENT
+        &KIND_COMMENT
     } else {
-        &OTHER
+        &OTHER_KIND
     }
 }
 
@@ -138,7 +85,7 @@ fn add_kinds(case: &Case<'_>, explanation: &mut Explanation) -> Result<(), NoMem
     let speaker = case.speaker;
     let cell = case.text(KIND).trim_ascii();
     match likely_kind(case, cell)? {
-        Some(word) => speaker.helps(explanation, &NEAREST, &[word]),
+        Some(word) => speaker.helps(explanation, &NEAREST_KIND, &[word]),
         None => speaker.helps(explanation, &KINDS, &[]),
     }
 }
@@ -180,5 +127,11 @@ pub(crate) fn explain_kind(case: &Case<'_>) -> Result<Explanation, NoMemory>
 pub(crate) fn explain_no_land(case: &Case<'_>) -> Result<Explanation, NoMemory>
     ensures { IfOk result (λ x. x.code ≡ Some R11) }
 {
-    case.explains(FaultCode::R11, &NO_LAND, &[], case.whole(), &[&ADD_LAND])
+    case.explains(
+        FaultCode::R11,
+        &NO_LAND_RECORD,
+        &[],
+        case.whole(),
+        &[&ADD_LAND],
+    )
 }

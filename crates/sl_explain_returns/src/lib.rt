@@ -19,6 +19,7 @@ mod letters;
 mod names;
 mod numbers;
 mod quotes;
+mod texts;
 mod twice;
 mod unknown;
 

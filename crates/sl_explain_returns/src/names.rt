@@ -5,82 +5,13 @@ ghost use Rattle.sl_explain_texts.specs.declared.code.FaultCode.TheVariants.{R04
 
 use crate::case::Case;
 use crate::letters::{name_for, wrong_character};
+use crate::texts::{
+    BLANK, CHARACTER, CONTROL, EMPTY_CELL, FILL, LATIN, LONG_NAME, OF_LAND, OF_PARTY, OF_STAGE,
+    OF_WIN, RENAME, SPELL, STAGE,
+};
 use sl_explain_texts::{Explanation, FaultCode, Message};
 use sl_ratio::{MAX_NAME_BYTES, NoMemory};
 use sl_returns::{Content, Named, column_name};
-
-// What names name.
-const OF_LAND: Message = Message {
-    english: "name of a Land",
-    german: "Name eines Landes",
-};
-
-const OF_PARTY: Message = Message {
-    english: "name of a party",
-    german: "Name einer Partei",
-};
-
-const OF_WIN: Message = Message {
-    english: "name of a constituency",
-    german: "Name eines Wahlkreises",
-};
-
-const OF_STAGE: Message = Message {
-    english: "name of a stage, or `seats`",
-    german: "Name einer Stufe, oder `seats`",
-};
-
-// What is wrong; values: the column, what it names, and of the cell what the sentence says.
-const EMPTY: Message = Message {
-    english: "column $, $: the cell is empty",
-    german: "Spalte $, $: Die Zelle ist leer",
-};
-
-const LONG: Message = Message {
-    english: "column $, $: `$` has $ bytes, more than the twelve of a name",
-    german: "Spalte $, $: `$` hat $ Bytes, mehr als die zwölf eines Namens",
-};
-
-const BLANK: Message = Message {
-    english: "column $, $: `$` has a blank",
-    german: "Spalte $, $: `$` hat ein Leerzeichen",
-};
-
-const CHARACTER: Message = Message {
-    english: "column $, $: `$` has the character `$`, which no name may have",
-    german: "Spalte $, $: `$` hat das Zeichen `$`, das kein Name haben darf",
-};
-
-const CONTROL: Message = Message {
-    english: "column $, $: `$` has a control character, the byte $",
-    german: "Spalte $, $: `$` hat ein Steuerzeichen, das Byte $",
-};
-
-const LATIN: Message = Message {
-    english: "column $, $: `$` has a letter of Latin-1 (Windows-1252), which no name may have",
-    german: "Spalte $, $: `$` hat einen Buchstaben aus Latin-1 (Windows-1252), den kein Name haben darf",
-};
-
-// What to do.
-const FILL: Message = Message {
-    english: "write the name there; count the commas: the columns are `kind,land,party,a,b,c`",
-    german: "dort den Namen schreiben; die Kommas zählen: Die Spalten sind `kind,land,party,a,b,c`",
-};
-
-const RENAME: Message = Message {
-    english: "write `$`, or another short name, and the same one in every record that means it",
-    german: "`$` schreiben, oder einen anderen kurzen Namen, und denselben in jedem Datensatz, der ihn meint",
-};
-
-const SPELL: Message = Message {
-    english: "a name has 1 to 12 of the characters A to Z, a to z, 0 to 9, `_` and `-`; an umlaut is two letters, as in `GRUENE`",
-    german: "ein Name hat 1 bis 12 der Zeichen A bis Z, a bis z, 0 bis 9, `_` und `-`; ein Umlaut wird zu zwei Buchstaben, wie in `GRUENE`",
-};
-
-const STAGE: Message = Message {
-    english: "write the word after `stage` in the rulebook, or `seats` for its last clause",
-    german: "das Wort hinter `stage` im Regelwerk schreiben, oder `seats` für seine letzte Klausel",
-};
 
 /// What a name names, in words, and whether it is a stage's.
 #[derive(Clone, Copy)]
@@ -155,7 +86,7 @@ fn says_length(
     ensures { IfOk result (λ x. x.code ≡ Some R04) }
 {
     let number = case.speaker.number(length)?;
-    says_name(case, column, naming, &LONG, number)
+    says_name(case, column, naming, &LONG_NAME, number)
 }
 
 // A name with a character that it may not have.
@@ -237,5 +168,11 @@ pub(crate) fn explain_name(
         return explain_spelling(case, column, naming);
     }
     let values = [column_name(column), case.speaker.word(naming.words)];
-    case.explains(FaultCode::R04, &EMPTY, &values, case.at(column), &[&FILL])
+    case.explains(
+        FaultCode::R04,
+        &EMPTY_CELL,
+        &values,
+        case.at(column),
+        &[&FILL],
+    )
 }

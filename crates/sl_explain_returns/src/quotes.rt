@@ -3,18 +3,9 @@
 ghost use Rattle.std.specs.Prelude.{◌≡◌, IfOk, IfSome, Some};
 
 use crate::case::Case;
-use sl_explain_texts::{Explanation, FaultCode, Message, Span};
+use crate::texts::{CLOSE, OPEN};
+use sl_explain_texts::{Explanation, FaultCode, Span};
 use sl_ratio::NoMemory;
-
-const OPEN: Message = Message {
-    english: "this quote is not closed on its line, so its cell goes on over the ends of lines",
-    german: "dieses Anführungszeichen ist auf seiner Zeile nicht geschlossen, so läuft seine Zelle über die Zeilenenden weiter",
-};
-
-const CLOSE: Message = Message {
-    english: "close the quote, or delete it: names and numbers need none",
-    german: "das Anführungszeichen schließen oder löschen: Namen und Zahlen brauchen keine",
-};
 
 // The first byte of a cell that goes on over the end of a line, where the next quote of the file stands, or where none does to the end of the text.
 fn open_cell(case: &Case<'_>, column: usize) -> Option<Span> {

@@ -4,99 +4,15 @@ ghost use Rattle.std.specs.Prelude.{◌≡◌, IfOk, Some};
 ghost use Rattle.sl_explain_texts.specs.declared.code.FaultCode.TheVariants.{R08, R09, R10};
 
 use crate::case::Case;
+use crate::texts::{
+    EXCHANGE_COUNTED, FEWER, FEWER_LOTS, FIRST_HOUSE, FIRST_LINE, HOUSE_TWICE, LAND_TWICE, LANDS,
+    LIST_TWICE, LOT_TWICE, LOTS, MORE_COUNTED, ONE_RECORD_EACH, PARTIES, PARTY_TWICE, WIN_TWICE,
+    WINS,
+};
 use sl_explain_texts::{Explanation, FaultCode, Message};
 use sl_ratio::NoMemory;
 use sl_returns::{A, B, Content, KIND, Kind, LAND, Named, PARTY};
 use sl_stages::{MAX_LANDS, MAX_LOTS, MAX_PARTIES, MAX_WINS};
-
-// What is said.
-const LAND_TWICE: Message = Message {
-    english: "the Land `$` is declared a second time",
-    german: "das Land `$` kommt ein zweites Mal vor",
-};
-
-const PARTY_TWICE: Message = Message {
-    english: "the party `$` is declared a second time",
-    german: "die Partei `$` kommt ein zweites Mal vor",
-};
-
-const WIN_TWICE: Message = Message {
-    english: "the constituency `$` has a second winner",
-    german: "der Wahlkreis `$` hat einen zweiten Sieger",
-};
-
-const HOUSE_TWICE: Message = Message {
-    english: "the house is given a second time",
-    german: "die Größe des Hauses ist ein zweites Mal angegeben",
-};
-
-const LIST_TWICE: Message = Message {
-    english: "the list of the party `$` in the Land `$` is given a second time",
-    german: "die Liste der Partei `$` im Land `$` kommt ein zweites Mal vor",
-};
-
-const LOT_TWICE: Message = Message {
-    english: "this lot is given a second time",
-    german: "dieses Los kommt ein zweites Mal vor",
-};
-
-// What to do.
-const FIRST: Message = Message {
-    english: "line $ has the first one: delete one of the two, or correct a name",
-    german: "Zeile $ hat das erste: eines von beiden löschen, oder einen Namen berichtigen",
-};
-
-const FIRST_HOUSE: Message = Message {
-    english: "line $ has the first one: delete one of the two",
-    german: "Zeile $ hat die erste Angabe: eine von beiden löschen",
-};
-
-const NO_SUMS: Message = Message {
-    english: "rows of sums don't belong into returns: one record for each list",
-    german: "Summenzeilen gehören nicht in die Datei: ein Datensatz für jede Liste",
-};
-
-// More votes counted than valid; values: both.
-const COUNTED: Message = Message {
-    english: "$ counted votes (column b) are more than the $ valid ones (column a)",
-    german: "$ gezählte Stimmen (Spalte b) sind mehr als die $ gültigen (Spalte a)",
-};
-
-const EXCHANGE: Message = Message {
-    english: "write all valid votes of the list in column a, those of them that are counted in column b; maybe they are exchanged",
-    german: "in Spalte a alle gültigen Stimmen der Liste, in Spalte b die davon gezählten; vielleicht sind sie vertauscht",
-};
-
-// Too many; values: the number of this one, the greatest number.
-const LANDS: Message = Message {
-    english: "this is Land number $; there may be $",
-    german: "dies ist Land Nummer $; möglich sind $",
-};
-
-const PARTIES: Message = Message {
-    english: "this is party number $; there may be $",
-    german: "dies ist Partei Nummer $; möglich sind $",
-};
-
-const WINS: Message = Message {
-    english: "this is constituency number $; there may be $",
-    german: "dies ist Wahlkreis Nummer $; möglich sind $",
-};
-
-const LOTS: Message = Message {
-    english: "this is lot number $; there may be $",
-    german: "dies ist Los Nummer $; möglich sind $",
-};
-
-const FEWER: Message = Message {
-    english: "delete records that don't belong to this election; maybe a column has been copied into the wrong kind of record",
-    german: "Datensätze löschen, die nicht zu dieser Wahl gehören; vielleicht steht eine Spalte in der falschen Art von Datensatz",
-};
-
-const FEWER_LOTS: Message = Message {
-    english: "keep the lots of stages that have a tie, and delete the others",
-    german: "Lose von Stufen mit Gleichstand behalten, die anderen löschen",
-};
 
 // What is said of a name.
 fn name_message(named: Named) -> &'static Message {
@@ -133,7 +49,7 @@ fn explain_name_twice(case: &Case<'_>, column: usize, named: Named) -> Result<Ex
     let message = name_message(named);
     let mut explanation = case.says(FaultCode::R08, message, &[name], case.at(column))?;
     let cells = [(KIND, case.text(KIND)), (column, name)];
-    add_first(case, &cells, &FIRST, &mut explanation)?;
+    add_first(case, &cells, &FIRST_LINE, &mut explanation)?;
     Ok(explanation)
 }
 
@@ -155,8 +71,8 @@ fn explain_list_twice(case: &Case<'_>) -> Result<Explanation, NoMemory>
     let party = case.text(PARTY);
     let mut explanation = case.says(FaultCode::R08, &LIST_TWICE, &[party, land], case.whole())?;
     let cells = [(KIND, case.text(KIND)), (LAND, land), (PARTY, party)];
-    add_first(case, &cells, &FIRST, &mut explanation)?;
-    case.speaker.helps(&mut explanation, &NO_SUMS, &[])?;
+    add_first(case, &cells, &FIRST_LINE, &mut explanation)?;
+    case.speaker.helps(&mut explanation, &ONE_RECORD_EACH, &[])?;
     Ok(explanation)
 }
 
@@ -172,7 +88,7 @@ fn explain_lot_twice(case: &Case<'_>) -> Result<Explanation, NoMemory>
         (A, case.text(A)),
         (B, case.text(B)),
     ];
-    add_first(case, &cells, &FIRST, &mut explanation)?;
+    add_first(case, &cells, &FIRST_LINE, &mut explanation)?;
     Ok(explanation)
 }
 
@@ -209,10 +125,10 @@ pub(crate) fn explain_counted(case: &Case<'_>) -> Result<Explanation, NoMemory>
     let values = [case.text(B), case.text(A)];
     case.explains(
         FaultCode::R09,
-        &COUNTED,
+        &MORE_COUNTED,
         &values,
         case.between(A, B),
-        &[&EXCHANGE],
+        &[&EXCHANGE_COUNTED],
     )
 }
 

@@ -4,68 +4,15 @@ ghost use Rattle.std.specs.Prelude.{◌≡◌, IfOk, Some};
 ghost use Rattle.sl_explain_texts.specs.declared.code.FaultCode.TheVariants.{R07};
 
 use crate::case::Case;
+use crate::texts::{
+    DECLARE_LAND, DECLARE_PARTY, DECLARE_WIN, IS_LAND, IS_PARTY, LATER, NEAREST_NAME, NO_LAND,
+    NO_PARTY, NO_SUMS, NO_WIN,
+};
 use sl_explain_texts::{Explanation, FaultCode, Message, nearest};
 use sl_ratio::NoMemory;
 use sl_returns::{A, Before, Content, KIND, Kind, LAND, Named, PARTY, find_record};
 use sl_stages::Returns;
 use std::alloc::Global;
-
-// What is said; the value is the name.
-const NO_LAND: Message = Message {
-    english: "no record before this one declares the Land `$`",
-    german: "kein Datensatz davor nennt das Land `$`",
-};
-
-const NO_PARTY: Message = Message {
-    english: "no record before this one declares the party `$`",
-    german: "kein Datensatz davor nennt die Partei `$`",
-};
-
-const NO_WIN: Message = Message {
-    english: "no `win` record before this one is of the constituency `$`",
-    german: "kein `win`-Datensatz davor ist vom Wahlkreis `$`",
-};
-
-// What to do.
-const NEAREST: Message = Message {
-    english: "did you mean `$`? Names are compared letter by letter",
-    german: "war `$` gemeint? Namen werden Buchstabe für Buchstabe verglichen",
-};
-
-const LATER: Message = Message {
-    english: "line $ declares it: move that record before this one, or all `land` and `party` records to the top",
-    german: "der Name steht erst in Zeile $: jenen Datensatz vor diesen stellen, oder alle `land` und `party` nach oben",
-};
-
-const IS_PARTY: Message = Message {
-    english: "`$` is a party: the Land stands in the second column, the party in the third",
-    german: "`$` ist eine Partei: Das Land steht in der zweiten Spalte, die Partei in der dritten",
-};
-
-const IS_LAND: Message = Message {
-    english: "`$` is a Land: the Land stands in the second column, the party in the third",
-    german: "`$` ist ein Land: Das Land steht in der zweiten Spalte, die Partei in der dritten",
-};
-
-const NO_SUMS: Message = Message {
-    english: "a row of sums is deleted: returns have the lists and winners alone",
-    german: "Summenzeilen löschen: die Datei hat nur Listen und Wahlkreissieger",
-};
-
-const DECLARE_LAND: Message = Message {
-    english: "if there is such a Land, declare it in a line before this one: `land,$,,POPULATION,,`",
-    german: "gibt es dieses Land, so gehört davor eine Zeile: `land,$,,EINWOHNER,,`",
-};
-
-const DECLARE_PARTY: Message = Message {
-    english: "if there is such a party, declare it in a line before this one: `party,,$,0,,`",
-    german: "gibt es diese Partei, so gehört davor eine Zeile: `party,,$,0,,`",
-};
-
-const DECLARE_WIN: Message = Message {
-    english: "a lot of `seats` names a winner: its `win` record stands before it, as `win,LAND,PARTY,$,FIRST,VALID`",
-    german: "ein Los von `seats` nennt einen Wahlkreissieger: Der `win`-Datensatz steht davor, wie `win,LAND,PARTEI,$,ERSTSTIMMEN,GÜLTIGE`",
-};
 
 // What rows of sums are called, in small letters.
 const SUMS: [&[u8]; 7] = [
@@ -173,7 +120,7 @@ fn add_nearest(
     }
     let names = names_of(speaker.alloc, case.taken, case.refused.before, named)?;
     match nearest(speaker.alloc, name, names.as_slice())? {
-        Some(near) => speaker.helps(explanation, &NEAREST, &[near]),
+        Some(near) => speaker.helps(explanation, &NEAREST_NAME, &[near]),
         None => Ok(()),
     }
 }

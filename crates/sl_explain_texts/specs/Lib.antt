@@ -1,4 +1,5 @@
--- The codes of faults, how an explanation begins, and the lines of a text.
+-- The codes of faults, languages, how an explanation begins, and the lines of a text.
 pub mod Codes
 pub mod Heads
+pub mod Languages
 pub mod Lines

@@ -93,7 +93,7 @@ impl Explanation {
         Ok(())
     }
 
-    /// Adds a line that stands behind all else.
+    /// Adds a line that stands after all else.
     pub fn line(&mut self, text: Vec<u8>) -> Result<(), NoMemory>
         ensures { self.new.code ≡ self.old.code }
     {
@@ -123,7 +123,7 @@ impl Explanation {
         self.remedies.as_slice()
     }
 
-    /// The lines behind that.
+    /// The lines after that.
     pub fn lines(&self) -> &[Vec<u8>] {
         self.lines.as_slice()
     }

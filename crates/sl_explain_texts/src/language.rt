@@ -1,6 +1,7 @@
-//! Messages in two languages, which stand side by side.
+//! The languages, messages in each of them, and all texts of this crate. A new language is a variant here, and one more field of each message.
 
 ghost use Rattle.std.specs.Prelude.{◌≡◌};
+ghost use Rattle.sl_explain_texts.specs.Languages.{error_word, in_language, language_of, language_word, locale_language, warning_word};
 
 use crate::code::FaultCode;
 use sl_base_no_memory::NoMemory;
@@ -12,6 +13,12 @@ pub enum Language {
     English,
     German,
 }
+
+/// The languages.
+pub const LANGUAGES: [Language; 2] = [Language::German, Language::English];
+
+/// Their words, as `--lang` takes them.
+pub const LANGUAGE_WORDS: [&str; 2] = ["de", "en"];
 
 /// A message in both languages. Each `$` in it stands for the next value.
 #[derive(Clone, Copy)]
@@ -28,9 +35,62 @@ pub struct Sentence {
     pub german: &'static str,
 }
 
+impl Language {
+    /// The word that asks for it.
+    pub fn word(self) -> &'static str
+        ensures { result.now ≡ language_word self }
+    {
+        match self {
+            Language::English => "en",
+            Language::German => "de",
+        }
+    }
+
+    /// The language that a word asks for, if there is one.
+    pub fn of_word(word: &str) -> Option<Language>
+        ensures { result ≡ language_of word.now }
+    {
+        LANGUAGES
+            .iter()
+            .copied()
+            .find(|language| language.word() == word)
+    }
+
+    /// The language with whose word a locale begins, as `de_DE.UTF-8`, if there is one.
+    pub fn of_locale(locale: &str) -> Option<Language>
+        ensures { result ≡ locale_language locale.now }
+    {
+        LANGUAGES.iter().copied().find(|language| locale
+            .as_bytes()
+            .starts_with(language.word().as_bytes()))
+    }
+
+    /// The word for an error.
+    pub fn error_word(self) -> &'static str
+        ensures { result.now ≡ error_word self }
+    {
+        match self {
+            Language::English => "error",
+            Language::German => "Fehler",
+        }
+    }
+
+    /// The word for a warning.
+    pub fn warning_word(self) -> &'static str
+        ensures { result.now ≡ warning_word self }
+    {
+        match self {
+            Language::English => "warning",
+            Language::German => "Warnung",
+        }
+    }
+}
+
 impl Message {
     /// The message in a language.
-    pub fn in_language(&self, language: Language) -> &'static str {
+    pub fn in_language(&self, language: Language) -> &'static str
+        ensures { result.now ≡ in_language language self.now }
+    {
         match language {
             Language::English => self.english,
             Language::German => self.german,
@@ -77,3 +137,25 @@ impl Sentence {
         }
     }
 }
+
+// ---- texts; each `$` stands for the next value
+
+pub(crate) const HELP: Message = Message {
+    english: "  = help: ",
+    german: "  = Hilfe: ",
+};
+
+pub(crate) const OR: Message = Message {
+    english: " or ",
+    german: " oder ",
+};
+
+pub(crate) const AND: Message = Message {
+    english: " and ",
+    german: " und ",
+};
+
+pub(crate) const MEANT: Message = Message {
+    english: "did you mean `$`?",
+    german: "ist `$` gemeint?",
+};

@@ -20,7 +20,7 @@ mod speaker;
 
 pub use code::{CODES, FaultCode};
 pub use explanation::{Explanation, Remedy, Span};
-pub use language::{Language, Message, Sentence};
+pub use language::{LANGUAGE_WORDS, LANGUAGES, Language, Message, Sentence};
 pub use line::{Line, line_at};
 pub use names::nearest;
 pub use packed::packing_of;

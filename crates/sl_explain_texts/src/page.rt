@@ -1,21 +1,16 @@
 //! How an explanation stands on the page: as compilers write theirs.
 
 ghost use Rattle.std.specs.Prelude.{◌≡◌, IfOk};
-ghost use Rattle.sl_explain_texts.specs.Heads.{Begins, error_word, head_of};
+ghost use Rattle.sl_explain_texts.specs.Heads.{Begins, head_of};
 
 use crate::code::FaultCode;
 use crate::explanation::{Explanation, Remedy, Span};
-use crate::language::{Language, Message};
+use crate::language::{HELP, Language};
 use crate::line::line_at;
 use crate::parts::{append, begins_character, from, until};
 use crate::shown::{push_shown, shown_count};
 use sl_base_no_memory::NoMemory;
 use std::alloc::Global;
-
-const HELP: Message = Message {
-    english: "  = help: ",
-    german: "  = Hilfe: ",
-};
 
 // The most bytes of a line that are shown before the mark, and the most characters in all.
 const BEFORE: usize = 60;
@@ -126,22 +121,12 @@ fn write_place(
     write_line(text, digits.as_bytes(), line.text, at, length)
 }
 
-// The word for an error.
-fn error_word(language: Language) -> &'static [u8]
-    ensures { result.now ≡ error_word language }
-{
-    match language {
-        Language::English => b"error",
-        Language::German => b"Fehler",
-    }
-}
-
 // How an explanation begins: the word for an error, and the code of the fault, if it is of one.
 fn head_of(alloc: Global, language: Language, code: Option<FaultCode>) -> Result<Vec<u8>, NoMemory>
     ensures { IfOk result (λ text. text.items ≡ head_of language code) }
 {
     let mut text = Vec::new(alloc);
-    text.extend_from_slice(error_word(language))?;
+    text.extend_from_slice(language.error_word().as_bytes())?;
     if let Some(code) = code {
         text.extend_from_slice(b"[")?;
         text.extend_from_slice(code.word().as_bytes())?;
@@ -151,7 +136,7 @@ fn head_of(alloc: Global, language: Language, code: Option<FaultCode>) -> Result
     Ok(text)
 }
 
-// What to do, a line each behind a label.
+// What to do, a line each after a label.
 fn write_remedies(text: &mut Vec<u8>, label: &[u8], remedies: &[Remedy]) -> Result<(), NoMemory> {
     for remedy in remedies {
         append(text, &[label, remedy.text(), b"\n"])?;
@@ -200,7 +185,7 @@ fn rest_of(
 }
 
 /// An explanation as it is written: the code and the sentence; the path of the file, and with a place its line and column, and the line with a mark under
-/// the place; the remedies; and the lines behind them. Without a path, as where no file is spoken of, no place is written.
+/// the place; the remedies; and the lines after them. Without a path, as where no file is spoken of, no place is written.
 pub fn written(
     alloc: Global,
     language: Language,

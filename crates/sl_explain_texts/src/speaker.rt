@@ -3,27 +3,12 @@
 ghost use Rattle.std.specs.Prelude.{◌≡◌, IfOk, Some};
 
 use crate::explanation::{Explanation, Span};
-use crate::language::{Language, Message, Sentence};
+use crate::language::{AND, Language, MEANT, Message, OR, Sentence};
 use crate::names::nearest;
 use crate::parts::{begins_character, from, until};
 use crate::shown::push_shown;
 use sl_base_no_memory::NoMemory;
 use std::alloc::Global;
-
-const OR: Message = Message {
-    english: " or ",
-    german: " oder ",
-};
-
-const AND: Message = Message {
-    english: " and ",
-    german: " und ",
-};
-
-const MEANT: Message = Message {
-    english: "did you mean `$`?",
-    german: "ist `$` gemeint?",
-};
 
 // How many bytes of an input a sentence repeats, up to the next character.
 const REPEATED: usize = 40;

@@ -38,7 +38,7 @@ pub fn four_are_enough()
 {}
 
 /// By the older statutes votes that a party lacks for one more seat among the parties may give it none in the table. By those of 1956, 1985 and 2008 a
-/// party with five winners has five seats with 1 vote and with 3, beside 11 votes of the other. By that of 2013 the house may grow less, to
+/// party with five winners has five seats with 1 vote and with 3, against 11 votes of the other. By that of 2013 the house may grow less, to
 /// three seats in place of four, and the party has two of each.
 pub fn no_seat_gained()
     ensures { NoSeatGained }

@@ -166,7 +166,7 @@ module _ (e : Election) (at : Stand) (amounts votes : List ℕ) (can : can_split
 -- ---- what comes before a column is a column
 
 module _ (b : BookTree) (e : Election) (c : Context) (at : ℕ) (s v : ExprTree) (method : Method) (m : Majority) (values : List ℕ) where
-  -- the parts of a split that comes to a column
+  -- the parts of a split that yields a column
   record SplitParts : Type 0 where
     pub amounts : List ℕ
     pub seats : ComesToColumn b e c s amounts

@@ -15,7 +15,7 @@ use Rattle.sl_stages.specs.meaning.Results.{Column}
 use Rattle.sl_stages.specs.meaning.Scopes.{Group, place, cells, scopes}
 use Rattle.sl_stages.specs.meaning.Expressions.{Context, shape_in, ExprMeans}
 
--- the expression comes to a column, whatever the records of its seats
+-- the expression yields a column, whatever the records of its seats
 abbrev pub ComesToColumn : BookTree → Election → Context → ExprTree → List ℕ → Type 0
 ComesToColumn b e c x values = (records : Records) × ExprMeans b e c x (Column values records)
 
@@ -27,7 +27,7 @@ sum_in e g column = sum (cells e g.entries column)
 abbrev pub number_of : Election → Item → List ℕ → ℕ
 number_of e i column = slice_index column (place e i)
 
--- a split that comes to a column distributes in each scope just the amount of the scope
+-- a split that yields a column distributes in each scope just the amount of the scope
 abbrev pub SplitsGiveTheAmount : Type 0
 SplitsGiveTheAmount =
     (b : BookTree) (e : Election) (c : Context) (at : ℕ) (s v : ExprTree) (method : Method) (minima : MinimaTree) (m : Majority) (values : List ℕ) →
@@ -35,7 +35,7 @@ SplitsGiveTheAmount =
     (amounts : List ℕ) × ComesToColumn b e c s amounts
     × ((g : Group) → Contains (scopes e (shape_in c s) (shape_in c v)) g → sum_in e g values ≡ slice_index amounts g.amount_place)
 
--- a growth that comes to a column distributes at least the amount, and no more than the cap
+-- a growth that yields a column distributes at least the amount, and no more than the cap
 abbrev pub GrowthsGiveTheAmount : Type 0
 GrowthsGiveTheAmount =
     (b : BookTree) (e : Election) (c : Context) (at : ℕ) (s v : ExprTree) (method : Method) (minima : ExprTree) (cap : Number) (m : Majority) (values : List ℕ) →
@@ -49,7 +49,7 @@ KeepsMajorities e groups votes values =
     (g : Group) → Contains groups g → 0 < sum_in e g values →
     (i : Item) → Contains g.entries i → sum_in e g votes < 2 * number_of e i votes → sum_in e g values < 2 * number_of e i values
 
--- so it is with `majority refuse` where a split or a growth comes to a column
+-- so it is with `majority refuse` where a split or a growth yields a column
 abbrev pub MajorityKept : Type 0
 MajorityKept =
     (b : BookTree) (e : Election) (c : Context) (at : ℕ) (s v : ExprTree) (method : Method) (minima : MinimaTree) (values : List ℕ) →

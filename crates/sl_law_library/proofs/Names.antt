@@ -1,6 +1,5 @@
 -- The text after a name has one verdict, which is the tree of the statute.
 use Rattle.std.proofs.Common.{◌≡◌, ℕ, List, Option, arith, sym, subst, ◌∙◌}
-use Rattle.std.specs.Prelude.{codes}
 use Rattle.sl_stages.specs.book.Trees.{BookTree}
 use Rattle.sl_count_inputs.specs.declared.refusal.BookRefusal.{BookRefusal}
 use Rattle.sl_count_inputs.specs.declared.verdict.Verdict.{Verdict}
@@ -30,11 +29,4 @@ counts_by one name statute h =
     }
 
 pub names_count : OneBookVerdict → TextsHaveTheTrees → NamesCountByStatutes
-names_count one trees = (
-  counts_by one (codes "1956") _ trees.0,
-  counts_by one (codes "1985") _ trees.1,
-  counts_by one (codes "2008") _ trees.2,
-  counts_by one (codes "2013") _ trees.3,
-  counts_by one (codes "2023") _ trees.4,
-  counts_by one (codes "2023-order") _ trees.5,
-)
+names_count one trees = λ k d h. counts_by one _ _ (trees.0 k d h)

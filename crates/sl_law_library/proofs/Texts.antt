@@ -1,5 +1,6 @@
--- The six texts, cut and read.
+-- The texts, cut and read.
 use Rattle.std.proofs.Common.{◌≡◌, ℕ, ◌≤◌, List, [], ◌∷◌, length, get_or, arith, Option, Some, None, Ok, Err, refl, subst}
+use Rattle.std.proofs.lemmas.List.Elements.{All-from_recursion}
 use Rattle.std.specs.Prelude.{codes}
 use Rattle.sl_lex.specs.declared.token.Token.{Token}
 use Rattle.sl_lex.proofs.OneCut.{one_list}
@@ -12,7 +13,7 @@ use Rattle.sl_parse.proofs.OneTree.{one, is_within}
 use Rattle.sl_parse.proofs.ReadsBook.{BookRead, InBook, reads_book}
 use Rattle.sl_parse.proofs.Rules.{Told}
 use Rattle.sl_laws.specs.Books.{law_text, lines, book_1956, book_1985, book_2008, book_2013, book_2023, book_2023_order}
-use Rattle.sl_law_statutes.specs.Trees.{law_of_1956, law_of_1985, law_of_2008, law_of_2013, law_of_2023, law_of_2023_order}
+use Rattle.sl_law_statutes.specs.Trees.{law_of_1956, law_of_1985, law_of_2008, law_of_2013, law_of_2023, law_of_2023_order, statutes}
 use Rattle.sl_law_library.specs.Texts.{IsTextOfTree, HasStatuteTree, TextsHaveTheTrees}
 use Rattle.sl_law_library.proofs.Cutting.{tokens_of, are_tokens}
 
@@ -111,4 +112,7 @@ has_2023_order : HasStatuteTree (codes "2023-order") law_of_2023_order
 has_2023_order = has_tree (codes "2023-order") (lines book_2023_order) law_of_2023_order (at_of offsets_2023_order) refl (omega arith) refl parsed_2023_order
 
 pub texts_have_the_trees : TextsHaveTheTrees
-texts_have_the_trees = (has_1956, has_1985, has_2008, has_2013, has_2023, has_2023_order)
+texts_have_the_trees = (
+  All-from_recursion (λ statute. HasStatuteTree statute.0 statute.1) statutes (has_1956, (has_1985, (has_2008, (has_2013, (has_2023, (has_2023_order, tt)))))),
+  refl,
+)

@@ -1,5 +1,6 @@
 -- What counting writes for the name of a statute (docs/laws.md). The law is the contract of a function of `laws`.
-use Rattle.std.specs.Prelude.{ℕ, List, codes}
+use Rattle.std.specs.List.{All}
+use Rattle.std.specs.Prelude.{ℕ, List}
 use Rattle.sl_count_inputs.specs.declared.status.Status.{Status}
 use Rattle.sl_stages.specs.book.Trees.{BookTree}
 use Rattle.sl_count_inputs.specs.declared.verdict.Verdict.TheVariants.{Good}
@@ -7,7 +8,7 @@ use Rattle.sl_count_inputs.specs.Books.{library, IsBookVerdict}
 use Rattle.sl_count_calls.specs.declared.report.Report.{Report}
 use Rattle.sl_count_calls.specs.Counting.{IsCount, IsOutput}
 use Rattle.sl_count_calls.specs.Reports.{IsReported}
-use Rattle.sl_law_statutes.specs.Trees.{law_of_1956, law_of_1985, law_of_2008, law_of_2013, law_of_2023, law_of_2023_order}
+use Rattle.sl_law_statutes.specs.Trees.{statutes}
 
 -- the library's book of that name is a good one, with the tree of the statute; and whatever is reported of a table, its seats, its steps or a column,
 -- what counting writes for the name is what it writes for a good book of that tree: the table that it means on the returns, or the fault
@@ -18,10 +19,4 @@ pub record CountsBy (name : List ℕ) (statute : (ℕ → ℕ) → BookTree) : T
       IsOutput (IsReported report) (library name) returns ends output → IsCount (IsReported report) (Good (statute at)) returns ends output
 
 abbrev pub NamesCountByStatutes : Type 0
-NamesCountByStatutes =
-    CountsBy (codes "1956") law_of_1956
-    × CountsBy (codes "1985") law_of_1985
-    × CountsBy (codes "2008") law_of_2008
-    × CountsBy (codes "2013") law_of_2013
-    × CountsBy (codes "2023") law_of_2023
-    × CountsBy (codes "2023-order") law_of_2023_order
+NamesCountByStatutes = All (λ statute. CountsBy statute.0 statute.1) statutes

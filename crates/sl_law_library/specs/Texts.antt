@@ -1,13 +1,14 @@
 -- What trees the texts of the library have (docs/laws.md).
-use Rattle.std.specs.Prelude.{◌≡◌, ℕ, ◌≤◌, List, [], Some, None, length, codes, IsTrue}
+use Rattle.std.specs.List.{All}
+use Rattle.std.specs.Prelude.{◌≡◌, ℕ, ◌≤◌, List, [], Some, None, length, map, IsTrue}
 use Rattle.sl_lex.specs.declared.token.Token.{Token}
 use Rattle.sl_lex.specs.Tokens.{AreTokens}
 use Rattle.sl_parse.specs.Grammar.{IsBook}
 use Rattle.sl_stages.specs.book.Trees.{BookTree}
 use Rattle.sl_stages.specs.book.Limits.{is_within_limits}
 use Rattle.sl_stages.specs.book.Typing.{check_fault}
-use Rattle.sl_laws.specs.Books.{law_text}
-use Rattle.sl_law_statutes.specs.Trees.{law_of_1956, law_of_1985, law_of_2008, law_of_2013, law_of_2023, law_of_2023_order}
+use Rattle.sl_laws.specs.Books.{books, law_text}
+use Rattle.sl_law_statutes.specs.Trees.{statutes}
 
 -- the text's tokens are that tree
 abbrev pub IsTextOfTree : List ℕ → BookTree → Type 0
@@ -25,11 +26,8 @@ pub record HasStatuteTree (name : List ℕ) (statute : (ℕ → ℕ) → BookTre
   pub formed : check_fault (statute at) ≡ None
   pub only : (b : BookTree) → IsTextOfTree text b → b ≡ statute at
 
+-- each statute has its tree, and the library has no other names
 abbrev pub TextsHaveTheTrees : Type 0
 TextsHaveTheTrees =
-    HasStatuteTree (codes "1956") law_of_1956
-    × HasStatuteTree (codes "1985") law_of_1985
-    × HasStatuteTree (codes "2008") law_of_2008
-    × HasStatuteTree (codes "2013") law_of_2013
-    × HasStatuteTree (codes "2023") law_of_2023
-    × HasStatuteTree (codes "2023-order") law_of_2023_order
+    All (λ statute. HasStatuteTree statute.0 statute.1) statutes
+    × (map (λ book. book.0) books ≡ map (λ statute. statute.0) statutes)

@@ -5,7 +5,8 @@ ghost use Rattle.sl_law_library.specs.Counts.{MissingIn2023};
 ghost use Rattle.sl_law_library.specs.Names.{NamesCountByStatutes};
 ghost use Rattle.sl_law_library.specs.Texts.{TextsHaveTheTrees};
 
-/// Each text of the library is a rulebook, and its tree is that of the statute, with the offsets in the text; it has no other tree.
+/// Each text of the library is a rulebook, and its tree is that of the statute, with the offsets in the text; it has no other tree, and the library
+/// has no other names.
 pub fn texts_have_the_trees()
     ensures { TextsHaveTheTrees }
 {}

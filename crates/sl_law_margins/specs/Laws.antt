@@ -17,7 +17,7 @@ DivisorsBetween =
     (i j : ℕ) → IsLast method v s i → IsNext method v s j → Below (next_quotient method v s j) (last_quotient method v s i) →
     (n : ℕ) × Separates method v s (value_of (record { digits = n; places = unit_places method }))
 
--- where so many further votes are enough for one more seat beside minima, more are too
+-- where so many further votes are enough for one more seat in addition to minima, more are too
 abbrev pub EnoughStaysEnough : Type 0
 EnoughStaysEnough =
     (method : Divisor) (v m s : List ℕ) → length m ≡ length v → IsDivisorAllocation method v m (sum s) s → (i : ℕ) → i < length v →

@@ -85,7 +85,7 @@ fn weight_needed(
     needed
 }
 
-/// The votes that an entry lacks for one more seat beside minima: the least number of further votes for it, all else equal, with which every
+/// The votes that an entry lacks for one more seat in addition to minima: the least number of further votes for it, all else equal, with which every
 /// allocation of the same number of seats, with the same minima, gives it more than it has, or `None` where no number does. An entry may be
 /// without votes.
 pub fn votes_missing_with_minima(

@@ -103,7 +103,7 @@ module _ (e : Election) (is : IsElection e) (land party : ℕ) (votes : ListVote
             ∙ get_or-set_other (get_or e.cells land []) party p (Some votes) None ne)
       ]
 
-  -- the sum of what is told of a party's lists, as valid or as counted votes
+  -- the sum of what is recorded of a party's lists, as valid or as counted votes
   module _ (read : Option ListVotes → ℕ) where
     abbrev of_lists : Election → ℕ → ℕ
     of_lists e p = sum_by (λ l. read (list_at e l p)) (lands e)

@@ -1,4 +1,4 @@
--- Stages that a run goes through come to columns, and what columns leaves and pools are.
+-- Stages that a run goes through yield columns, and what columns leaves and pools are.
 use Rattle.std.proofs.Common.{◌≡◌, ℕ, ◌-◌, List, [], ◌∷◌, Some, sum, sym, ap, ◌∙◌}
 use Rattle.std.specs.Prelude.{find, option_map}
 use Rattle.std.proofs.lemmas.Option.{same_Some}

@@ -1,5 +1,6 @@
--- The laws of the six statutes.
+-- The laws of the statutes.
 use Rattle.std.proofs.Common.{◌≡◌, ℕ, ◌-◌, true, List, [], ◌∷◌, max, sum, arith, refl, sym, ap, subst, ◌∙◌}
+use Rattle.std.proofs.lemmas.List.Sums.{AllPass-from_list_all}
 use Rattle.std.specs.List.{AllZip}
 use Rattle.sl_ratio.specs.declared.method.Divisor.TheVariants.{Jefferson, Webster}
 use Rattle.sl_ratio.specs.declared.method.Method.{Method}
@@ -21,7 +22,7 @@ use Rattle.sl_law_fairness.specs.Winners.{IsBase, base_seats, winners_on, IsLine
 use Rattle.sl_law_fairness.proofs.Bases.{end_of, sum_of_base}
 use Rattle.sl_law_fairness.proofs.Winners.{keep_seats_all, keep_total}
 use Rattle.sl_law_fairness.proofs.Covering.{cover_keeps_base}
-use Rattle.sl_law_statutes.specs.Trees.{law_of_1956, law_of_1985, law_of_2008, law_of_2013, law_of_2023, law_of_2023_order, keep, cover, shares}
+use Rattle.sl_law_statutes.specs.Trees.{law_of_1956, law_of_1985, law_of_2008, law_of_2013, law_of_2023, law_of_2023_order, keep, cover, shares, statutes}
 use Rattle.sl_law_statutes.specs.Statutes.{LastClauses, AreWellFormed, WinnersUpTo2013, HaveTheLarger, ListsUpTo2008, HasRoom, WinnersOf2013}
 use Rattle.sl_law_statutes.specs.Houses.{house_of, AlwaysGrowsByOverhang, AlwaysKeepsItsSize, OverhangOf1956, OverhangOf1985, OverhangOf2008, TotalOf2023, TotalOf2023Order}
 use Rattle.sl_law_statutes.proofs.Shares.{lists_have, lists_share, outside_in_all, independents_in_all}
@@ -30,7 +31,7 @@ pub last_clauses : LastClauses
 last_clauses at = (refl, refl, refl, refl, refl, refl)
 
 pub are_well_formed : AreWellFormed
-are_well_formed at = (refl, refl, refl, refl, refl, refl)
+are_well_formed at = AllPass-from_list_all (λ statute. is_typed (statute.1 at)) statutes refl
 
 -- ---- all winners sit
 

@@ -1,6 +1,6 @@
--- What the six statutes say of winners, whatever the offsets in their texts. Each law is the contract of a function of `laws`.
-use Rattle.std.specs.Prelude.{◌≡◌, ◌⊎◌, ℕ, ◌<◌, ◌≤◌, true, List, Some, max, slice_get}
-use Rattle.std.specs.List.{AllZip}
+-- What the statutes say of winners, whatever the offsets in their texts. Each law is the contract of a function of `laws`.
+use Rattle.std.specs.Prelude.{◌≡◌, ◌⊎◌, ℕ, ◌<◌, ◌≤◌, List, Some, max, slice_get}
+use Rattle.std.specs.List.{AllPass, AllZip}
 use Rattle.sl_stages.specs.declared.book.Seating.TheVariants as seating
 use Rattle.sl_stages.specs.declared.table.ListSeats.{ListSeats}
 use Rattle.sl_stages.specs.declared.table.Outcome.TheVariants as outcome
@@ -12,7 +12,7 @@ use Rattle.sl_stages.specs.returns.Facts.{lists_of}
 use Rattle.sl_stages.specs.meaning.Tables.{SeatTable}
 use Rattle.sl_stages.specs.meaning.Means.{Means}
 use Rattle.sl_law_fairness.specs.Winners.{IsBase, base_seats, winners_on, IsLine}
-use Rattle.sl_law_statutes.specs.Trees.{law_of_1956, law_of_1985, law_of_2008, law_of_2013, law_of_2023, law_of_2023_order}
+use Rattle.sl_law_statutes.specs.Trees.{law_of_1956, law_of_1985, law_of_2008, law_of_2013, law_of_2023, law_of_2023_order, statutes}
 
 -- the statutes up to 2013 keep the winners, and those of 2023 cover them
 abbrev pub LastClauses : Type 0
@@ -27,14 +27,7 @@ LastClauses =
 
 -- each statute is a well-formed book
 abbrev pub AreWellFormed : Type 0
-AreWellFormed =
-    (at : ℕ → ℕ) →
-    (is_typed (law_of_1956 at) ≡ true)
-    × (is_typed (law_of_1985 at) ≡ true)
-    × (is_typed (law_of_2008 at) ≡ true)
-    × (is_typed (law_of_2013 at) ≡ true)
-    × (is_typed (law_of_2023 at) ≡ true)
-    × (is_typed (law_of_2023_order at) ≡ true)
+AreWellFormed = (at : ℕ → ℕ) → AllPass (λ statute. is_typed (statute.1 at)) statutes
 
 -- in each table each winner sits, on a list or as a single
 abbrev pub AllSit : BookTree → Type 0

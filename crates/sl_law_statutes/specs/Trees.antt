@@ -1,4 +1,4 @@
--- The trees of the six statutes, written by hand from their texts (docs/laws.md). All hold for any offsets: each place of a text that a tree
+-- The trees of the statutes, written by hand from their texts (docs/laws.md). All hold for any offsets: each place of a text that a tree
 -- keeps has a number here, and `at` says at which offset it stands.
 use Rattle.std.specs.Prelude.{ℕ, List, [], ◌∷◌, Some, None, codes}
 use Rattle.sl_ratio.specs.declared.method.Divisor.TheVariants.{Jefferson, Webster}
@@ -51,7 +51,7 @@ module _ (at : ℕ → ℕ) where
   abbrev pub lower : Method → StageTree
   lower method = stage (codes "lower") 11 (split (at 12) (name (at 13) (codes "upper")) (fact (at 14) facts.Counted) method without majority.Free)
 
-  -- the three stages of five statutes: what is left beside those winners goes to the parties, and then to their lists
+  -- the three stages of five statutes: what is left without those winners goes to the parties, and then to their lists
   abbrev pub shares : Fact → Method → Majority → List StageTree
   shares told method m = pool told ∷ upper method m ∷ lower method ∷ []
 
@@ -142,3 +142,14 @@ module _ (at : ℕ → ℕ) where
     stages = shares facts.Independents (by.Divisor Webster) majority.Refuse;
     last = cover;
   }
+
+-- each statute by its name in the library
+abbrev pub statutes : List (List ℕ × ((ℕ → ℕ) → BookTree))
+statutes =
+    (codes "1956", law_of_1956)
+    ∷ (codes "1985", law_of_1985)
+    ∷ (codes "2008", law_of_2008)
+    ∷ (codes "2013", law_of_2013)
+    ∷ (codes "2023", law_of_2023)
+    ∷ (codes "2023-order", law_of_2023_order)
+    ∷ []

@@ -1,4 +1,4 @@
-//! Laws of the six statutes, of their meaning (docs/meaning.md). Each function does nothing: its contract is the law.
+//! Laws of the statutes, of their meaning (docs/meaning.md). Each function does nothing: its contract is the law.
 
 ghost use Rattle.sl_law_statutes.specs.Statutes.{LastClauses, AreWellFormed, WinnersUpTo2013, ListsUpTo2008, WinnersOf2013};
 ghost use Rattle.sl_law_statutes.specs.Houses.{OverhangOf1956, OverhangOf1985, OverhangOf2008, TotalOf2023, TotalOf2023Order};

@@ -1,6 +1,6 @@
 //! The library: rulebooks by the names of their statutes, and the elections that were held under them.
 //!
-//! Stands on no other crate; used by the rooms count and explain. Proved: the text of each name.
+//! Stands on no other crate; used by the rooms count, explain and terminal. Proved: the text of each name.
 #![tactic(auto)]
 
 ghost use Rattle.std.specs.Prelude.{◌≡◌, ◌≤◌, IfSome, length, option_map};

@@ -1,4 +1,4 @@
--- Pieces of a text: blanks, comments and tokens. Whether bytes are one piece is told by all of them, and no scanner is in it
+-- Pieces of a text: blanks, comments and tokens. Whether bytes are one piece is decided by all of them, and no scanner is in it
 -- (docs/language.md, section 1).
 use Rattle.std.specs.Prelude.{◌≡◌, ℕ, ◌≤◌, List, [], ◌∷◌, ◌++◌, length, ◌⊎◌}
 use Rattle.std.specs.List.{AllByRecursion}

@@ -87,49 +87,49 @@ pub static KEYWORDS: [Keyword; 37] = [
 ];
 
 // Their spellings, in the same order.
-static SPELLINGS: [&[u8]; 37] = [
-    b"rulebook",
-    b"law",
-    b"house",
-    b"eligible",
-    b"valid",
-    b"at",
-    b"least",
-    b"per",
-    b"or",
-    b"stage",
-    b"seats",
-    b"counted",
-    b"winners",
-    b"outside",
-    b"independents",
-    b"population",
-    b"minority",
-    b"sum",
-    b"larger",
-    b"less",
-    b"split",
-    b"grow",
-    b"atleast",
-    b"majority",
-    b"prefer",
-    b"refuse",
-    b"party",
-    b"land",
-    b"all",
-    b"adams",
-    b"dean",
-    b"hill",
-    b"webster",
-    b"jefferson",
-    b"hamilton",
-    b"keep",
-    b"cover",
+static SPELLINGS: [&str; 37] = [
+    "rulebook",
+    "law",
+    "house",
+    "eligible",
+    "valid",
+    "at",
+    "least",
+    "per",
+    "or",
+    "stage",
+    "seats",
+    "counted",
+    "winners",
+    "outside",
+    "independents",
+    "population",
+    "minority",
+    "sum",
+    "larger",
+    "less",
+    "split",
+    "grow",
+    "atleast",
+    "majority",
+    "prefer",
+    "refuse",
+    "party",
+    "land",
+    "all",
+    "adams",
+    "dean",
+    "hill",
+    "webster",
+    "jefferson",
+    "hamilton",
+    "keep",
+    "cover",
 ];
 
 impl Keyword {
     /// The word that this keyword is.
-    pub fn spelling(self) -> &'static [u8]
+    pub fn spelling(self) -> &'static str
         ensures { result.now ≡ spelling self }
     {
         SPELLINGS[self as usize]
@@ -142,6 +142,6 @@ impl Keyword {
         KEYWORDS
             .iter()
             .copied()
-            .find(|keyword| keyword.spelling() == word)
+            .find(|keyword| keyword.spelling().as_bytes() == word)
     }
 }

@@ -43,7 +43,7 @@ fn input_cell(returns: &Returns, input: Input, place: usize) -> u64
     }
 }
 
-// The number of names that are left, and the greatest number where it is not told.
+// The number of names that are left, and the greatest number where it is not given.
 fn names_or_most(names: Option<u32>) -> u64
     ensures { (votes : Option ListVotes) → names ≡ slate_in votes → result ≡ names_or_most votes }
 {

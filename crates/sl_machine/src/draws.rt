@@ -42,7 +42,7 @@ impl Draws {
         if stage == self.stage { self.passed } else { 0 }
     }
 
-    /// Lets an entry in, beside those of the table: the draws go on where it is after the peers, and else begin again.
+    /// Lets an entry in, in addition to those of the table: the draws go on where it is after the peers, and else begin again.
     pub(crate) fn enter(&mut self, prio: &mut AwardTable, entry: &Entry)
         requires { All (λ x. FitsRatio x.ratio) (entry.now ∷ prio.old) }
         ensures stage { self.new.stage ≡ self.old.stage }

@@ -32,7 +32,7 @@ use std::alloc::Global;
 pub enum Ending {
     /// It is done.
     Done(Memory),
-    /// It comes to a legal fault.
+    /// It ends in a legal fault.
     Fault(LegalFault),
     /// It needs more steps than it was given.
     OutOfBudget,

@@ -26,7 +26,7 @@ pub(crate) enum End {
     Faulted(LegalFault),
 }
 
-/// What an instruction did: the run goes on after it, or at its target, which is told.
+/// What an instruction did: the run goes on after it, or at its target, which is given.
 #[derive(Clone, Copy)]
 pub(crate) enum Effect {
     Goes,

@@ -47,7 +47,7 @@ fn tables_of(alloc: Global, judged: &Judged<'_>) -> Result<Tables, NoMemory>
     })
 }
 
-// What is said in JSON beside the tables of what inputs came to.
+// What is said in JSON in addition to the tables.
 #[derive(Clone, Copy)]
 struct Beside<'a> {
     inputs: &'a [DigestedInput],
@@ -69,7 +69,7 @@ fn json_of(
     }
 }
 
-// What is said beside the totals: the digests of both inputs as far as they have bytes, and of a refusal why. A legal fault is none of theirs.
+// What is said in addition to the totals: the digests of both inputs as far as they have bytes, and of a refusal why. They have no legal fault.
 fn beside_totals<'a>(
     inputs: &'a [DigestedInput],
     answer: &Result<Answer, Answer>,
@@ -100,7 +100,7 @@ fn digested_totals(
     Ok(inputs)
 }
 
-// What is told of an explanation of a fault of one of these texts.
+// What JSON says of an explanation of a fault in one of these texts.
 fn told_of_texts<'a>(explained: &'a Option<Explained>, texts: Texts<'a>) -> Option<Told<'a>> {
     explained
         .as_ref()

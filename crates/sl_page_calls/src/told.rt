@@ -1,7 +1,9 @@
 //! Explanations, as the program writes them, handed over to the page.
 
-ghost use Rattle.std.specs.Prelude.{◌≡◌, ◌<◌, ◌≤◌, [], IfOk, None, length, option_map, take};
+ghost use Rattle.std.specs.Prelude.{◌≡◌, ◌<◌, ◌≤◌, [], IfOk, None, length, option_map, take, unwrap_or};
 ghost use Rattle.sl_explain_calls.specs.Codes.{judged_subject, subject_of};
+ghost use Rattle.sl_explain_texts.specs.Languages.{language_of};
+ghost use Rattle.sl_explain_texts.specs.declared.language.Language.TheVariants.{English};
 ghost use Rattle.sl_count_inputs.specs.Statuses.{status_number};
 ghost use Rattle.sl_count_inputs.specs.declared.status.Status.TheVariants as status;
 ghost use Rattle.sl_page_calls.specs.Telling.{Explains, check_status, ending_status, run_status, word_status};
@@ -13,19 +15,21 @@ use sl_count_outcomes::{End, Judged};
 use sl_desk::{Input, JudgedRun, ReadRun, RefusedBook, Status, Verdict};
 use sl_explain_calls::{Explained, explain_judged, explain_run, explain_verdict};
 use sl_explain_codes::text_about;
-use sl_explain_texts::{FaultCode, Language, written};
+use sl_explain_texts::{FaultCode, LANGUAGES, Language, written};
 use sl_machine::Ending;
 use sl_ratio::NoMemory;
 use sl_report_commands::Texts;
 use std::alloc::Global;
 
-/// The language of a word: German for `de`, and English for any other.
-pub(crate) fn language_of(word: &[u8]) -> Language {
-    if word == b"de".as_slice() {
-        Language::German
-    } else {
-        Language::English
-    }
+/// The language that a word asks for, and English for any other word.
+pub(crate) fn language_of(word: &[u8]) -> Language
+    ensures { result ≡ unwrap_or (language_of word.now) English }
+{
+    LANGUAGES
+        .iter()
+        .copied()
+        .find(|language| language.word().as_bytes() == word)
+        .unwrap_or(Language::English)
 }
 
 // The status of `check` on a judged rulebook.
@@ -102,7 +106,7 @@ fn told_text(
     }
 }
 
-/// What the program writes to standard error of what was explained of a rulebook and returns of these texts; nothing where they come to a table.
+/// What the program writes to standard error of what was explained of a rulebook and returns of these texts; nothing where they yield a table.
 pub(crate) fn explanation_text(
     alloc: Global,
     language: Language,

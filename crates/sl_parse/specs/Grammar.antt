@@ -18,7 +18,7 @@ use Rattle.sl_stages.specs.declared.book.Base.TheVariants as bases
 use Rattle.sl_stages.specs.declared.book.LastClause.{LastClause}
 use Rattle.sl_stages.specs.book.Trees.{ExprTree, fact, name, sum, pair, split, without, atleast, grow, StageTree, BookTree}
 
--- A part of a token list, told by the tokens from its first on and by those after it.
+-- A part of a token list, given by the tokens from its first on and by those after it.
 abbrev pub Part : Type 1
 Part = List Token → List Token → Type 0
 

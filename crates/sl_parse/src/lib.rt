@@ -21,4 +21,4 @@ mod words;
 pub use beginning::{Sort, begins_book};
 pub use fault::{Cause, ParseFault};
 pub use parser::parse;
-pub use words::{axis_keyword, fact_keyword, method_keyword, pairing_keyword};
+pub use words::{axis_keyword, fact_keyword, keyword_method, method_keyword, pairing_keyword};

@@ -9,8 +9,9 @@ ghost use Rattle.sl_parse.specs.Parsing.{offset};
 ghost use Rattle.sl_parse.specs.inner.Reading.{Gives, one, taken, number_in, name_in, quoted_in, axis_in, seating_in, preference_in, method_in, base_in, is_next};
 
 use crate::fault::{Cause, Stop};
+use crate::words::keyword_method;
 use sl_lex::{Keyword, Kind, Mark, Token};
-use sl_ratio::{Divisor, Method};
+use sl_ratio::Method;
 use sl_stages::{Axis, Base, Majority, Number, Seating, Word};
 use std::alloc::Global;
 
@@ -242,20 +243,12 @@ impl<'a> Parser<'a> {
     }
 }
 
-/// The method that a keyword stands for.
+// The method that a kind of tokens stands for.
 fn method_of(kind: Kind) -> Option<Method>
     ensures { result ≡ method_of kind }
 {
-    let Kind::Keyword(keyword) = kind else {
-        return None;
-    };
-    match keyword {
-        Keyword::Adams => Some(Method::Divisor(Divisor::Adams)),
-        Keyword::Dean => Some(Method::Divisor(Divisor::Dean)),
-        Keyword::Hill => Some(Method::Divisor(Divisor::Hill)),
-        Keyword::Webster => Some(Method::Divisor(Divisor::Webster)),
-        Keyword::Jefferson => Some(Method::Divisor(Divisor::Jefferson)),
-        Keyword::Hamilton => Some(Method::Hamilton),
+    match kind {
+        Kind::Keyword(keyword) => keyword_method(keyword),
         _ => None,
     }
 }

@@ -1,7 +1,8 @@
 //! The keywords that stand for facts, pairs, axes and methods.
 
 ghost use Rattle.std.specs.Prelude.{◌≡◌};
-ghost use Rattle.sl_parse.specs.Words.{axis_word, fact_word, method_word, pairing_word};
+ghost use Rattle.sl_lex.specs.declared.token.Kind.TheVariants as kinds;
+ghost use Rattle.sl_parse.specs.Words.{axis_word, fact_word, method_of, method_word, pairing_word};
 
 use sl_lex::Keyword;
 use sl_ratio::{Divisor, Method};
@@ -53,5 +54,20 @@ pub fn method_keyword(method: Method) -> Keyword
         Method::Divisor(Divisor::Webster) => Keyword::Webster,
         Method::Divisor(Divisor::Jefferson) => Keyword::Jefferson,
         Method::Hamilton => Keyword::Hamilton,
+    }
+}
+
+/// The method that a keyword stands for, if it stands for one.
+pub fn keyword_method(keyword: Keyword) -> Option<Method>
+    ensures { result ≡ method_of (kinds.Keyword keyword) }
+{
+    match keyword {
+        Keyword::Adams => Some(Method::Divisor(Divisor::Adams)),
+        Keyword::Dean => Some(Method::Divisor(Divisor::Dean)),
+        Keyword::Hill => Some(Method::Divisor(Divisor::Hill)),
+        Keyword::Webster => Some(Method::Divisor(Divisor::Webster)),
+        Keyword::Jefferson => Some(Method::Divisor(Divisor::Jefferson)),
+        Keyword::Hamilton => Some(Method::Hamilton),
+        _ => None,
     }
 }

@@ -63,7 +63,7 @@ none_stays xs ys (Some x) is same = tt
 none_stays xs ys None is same =
     subst (λ (zs : List Entry). IsPermutation xs zs) (no_entry ys (sym is) ∙ sym (no_top ys (sym is))) same
 
--- an entry that comes in the place of the top comes in beside the others
+-- an entry that comes in the place of the top joins the others
 pub top_replaced : (xs ys : List Entry) (x : Entry) → IfSome (top xs) (λ first. IsPermutation (x ∷ xs) (first ∷ ys)) → (o : Option Entry) → top xs ≡ o → IfSome o (λ first. IsPermutation (x ∷ without_top xs) ys)
 top_replaced xs ys x h None is = tt
 top_replaced xs ys x h (Some first) is =

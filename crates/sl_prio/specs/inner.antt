@@ -1,4 +1,4 @@
--- What the bodies and proofs of this crate cite beside the definitions.
+-- What the bodies and proofs of this crate cite in addition to the definitions.
 pub mod Taken
 pub mod Heap
 pub mod Marks

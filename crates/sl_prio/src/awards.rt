@@ -60,7 +60,7 @@ impl AwardTable {
         self.prio.clear();
     }
 
-    /// Puts an entry into the table, beside those that it holds, an equal one too.
+    /// Puts an entry into the table, in addition to those that it holds, an equal one too.
     ///
     /// # Errors
     ///

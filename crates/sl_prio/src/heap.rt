@@ -17,7 +17,7 @@ pub(crate) fn across(ratio: &Ratio, other: &Ratio) -> u128
     ratio.num() * u128::from(other.den() as u64)
 }
 
-// Whether an entry is greater than another. All but those with equal quotients are told apart by these.
+// Whether an entry is greater than another. All but those with equal quotients are distinguished by these.
 fn exceeds(entry: &Entry, other: &Entry) -> bool
     ensures { result ≡ is_gt (entry_cmp entry.now other.now) }
 {
@@ -39,7 +39,7 @@ fn exceeds_at_tie(entry: Entry, other: Entry) -> bool
     entry > other
 }
 
-// Puts an entry, which comes to the hole at a place, into the heap: moves the parents down into the hole until one is no smaller, and notes
+// Puts an entry, which reaches the hole at a place, into the heap: moves the parents down into the hole until one is no smaller, and notes
 // the places of those that go down.
 pub(crate) fn raise(entries: &mut [Entry], places: &mut [u16], place: usize, entry: Entry)
     requires { MayRise (slice_set entries.old place entry) place }
@@ -55,7 +55,7 @@ pub(crate) fn raise(entries: &mut [Entry], places: &mut [u16], place: usize, ent
     entries[hole] = entry;
 }
 
-// The parent of a place, if an entry that comes to that place is greater than the one there.
+// The parent of a place, if an entry that reaches that place is greater than the one there.
 fn smaller_parent(entries: &[Entry], entry: &Entry, place: usize) -> Option<usize>
     requires { place < length entries.now }
     ensures { MatchOption result (HasNoSmallerParent entries.now entry.now place) (IsSmallerParent entries.now entry.now place) }

@@ -72,7 +72,7 @@ impl Prio {
         self.counted = Counted::NONE;
     }
 
-    /// Puts an entry into the table, beside those that it holds, an equal one too.
+    /// Puts an entry into the table, in addition to those that it holds, an equal one too.
     ///
     /// # Errors
     ///
@@ -88,7 +88,7 @@ impl Prio {
         self.add(entry)
     }
 
-    // Adds an entry, beside those that there are.
+    // Adds an entry to those that there are.
     fn add(&mut self, entry: Entry) -> Result<(), NoMemory>
         ensures added { OnOk result (IsPermutation (entry ∷ self.old) self.new) }
         ensures unchanged { OnErr result (self.new ≡ self.old) }

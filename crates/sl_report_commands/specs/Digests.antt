@@ -64,7 +64,7 @@ count_digests (StageUnknown known name) book returns = book_digest None book
 count_digests (ReturnsRefused why) book returns = book_digest None book ++ returns_digest (Some why) returns
 count_digests (Counted c) book returns = book_digest None book ++ returns_digest None returns
 
--- ---- the inputs of totals, as they come to these verdicts: a rulebook, if one is given, and returns
+-- ---- the inputs of totals, with these verdicts: a rulebook, if one is given, and returns
 
 abbrev pub refusal_of : {T R : Type 0} → Verdict T R → Option R
 refusal_of (Good good) = None
@@ -74,7 +74,7 @@ abbrev pub totals_digests : Option (Verdict CheckedBook RefusedBook) → Verdict
 totals_digests None verdict book returns = returns_digest (refusal_of verdict) returns
 totals_digests (Some judged) verdict book returns = book_digest (refusal_of judged) book ++ returns_digest (refusal_of verdict) returns
 
--- those of totals beside a count, which judged no returns after a refused rulebook
+-- those of totals of a count, which judged no returns after a refused rulebook
 abbrev pub summed_digests : Judged → (book returns : List ℕ) → List (List ℕ)
 summed_digests (BookRefused why) book returns = count_digests (BookRefused why) book returns ++ unjudged_digest returns
 summed_digests (StageUnknown known name) book returns = count_digests (StageUnknown known name) book returns

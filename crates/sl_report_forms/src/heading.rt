@@ -1,4 +1,4 @@
-//! What an answer says beside its tables: the command, its inputs, and why there is no table.
+//! What an answer says in addition to its tables: the command, its inputs, and why there is no table.
 
 ghost use Rattle.std.specs.Prelude.{◌≡◌};
 ghost use Rattle.sha2.specs.Sha256.{sha256};
@@ -35,7 +35,7 @@ pub struct Told<'a> {
     pub explanation: &'a Explanation,
 }
 
-/// What an answer says beside its tables, whatever they are: the command, its language, its inputs, and why there is no table.
+/// What an answer says in addition to its tables, whatever they are: the command, its language, its inputs, and why there is no table.
 #[derive(Clone, Copy)]
 pub struct Heading<'a> {
     pub command: &'static str,

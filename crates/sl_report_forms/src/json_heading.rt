@@ -1,4 +1,4 @@
-//! What JSON says beside its tables: the versions, the command and how it ended, its inputs, and why there is no table.
+//! What JSON says in addition to its tables: the versions, the command and how it ended, its inputs, and why there is no table.
 
 use crate::heading::{DigestedInput, Heading, Told};
 use crate::json_values::{bytes_value, number_value, put_text};

@@ -20,8 +20,8 @@ pub enum Look {
     Number,
 }
 
-/// A column of a kind of sheets: its key, its title in English and in German, and its look.
-pub type Form = (&'static str, &'static str, &'static str, Look);
+/// A column of a kind of sheets: its key, its title, and its look.
+pub type Form = (&'static str, Message, Look);
 
 /// The head of a column: the key of its cells in CSV and in JSON, its title in text, and its look.
 #[derive(Drop)]
@@ -58,8 +58,8 @@ fn heads_of(alloc: Global, language: Language, forms: &[Form]) -> Result<Vec<Hea
     ensures { IfOk result (λ heads. map (λ h. string_bytes h.key) heads.items ≡ map (λ f. f.0.now) forms.now) }
 {
     let mut heads = Vec::new(alloc);
-    for (key, english, german, look) in forms {
-        let title = Message { english, german }.in_language(language);
+    for (key, title, look) in forms {
+        let title = title.in_language(language);
         heads.push(Head::new(alloc, key, title, *look)?)?;
     }
     Ok(heads)

@@ -5,7 +5,7 @@ use Rattle.sl_stages.specs.declared.returns.Win.{Win}
 use Rattle.sl_stages.specs.returns.Election.{Election, has_list, list_at}
 use Rattle.sl_stages.specs.returns.Facts.{lands, parties, is_of, is_in}
 
--- what is told of the lists of a party, of those in a Land, and of all
+-- what is recorded of the lists of a party, of those in a Land, and of all
 abbrev pub party_sum : (Option ListVotes → ℕ) → Election → ℕ → ℕ
 party_sum told e party = sum_by (λ land. told (list_at e land party)) (lands e)
 

@@ -6,6 +6,7 @@ pub mod Scopes
 pub mod Stages
 pub mod Faults
 pub mod Totals
+pub mod Words
 pub mod Compare
 pub mod Earlier
 pub mod Press

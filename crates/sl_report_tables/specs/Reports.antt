@@ -1,4 +1,5 @@
 -- Which tables each command shows (docs/report.md).
+use Rattle.std.specs.Borrow.{Bor}
 use Rattle.std.specs.List.{AllZip, range_with_len}
 use Rattle.std.specs.Prelude.{◌≡◌, ℕ, List, [], ◌∷◌, ◌++◌, Option, None, Some, filter, flat_map, get_or, length, option_map}
 use Rattle.sl_report_forms.specs.Tables.{Table}
@@ -85,3 +86,9 @@ module _ (b : Book) (e : Election) where
   Shows show.Report (end.Fault f) tables = IsFaultReport f tables
   Shows (show.Short earlier) (end.Fault f) tables = IsFaultReport f tables
   Shows show.Stages (end.Fault f) tables = IsFaultReport f tables
+
+-- what shows the same beside an earlier seat table, where a page for the press does
+abbrev pub beside : Option (Bor (List EarlierParty)) → Show → Show
+beside _ show.Report = show.Report
+beside earlier (show.Short _) = show.Short earlier
+beside _ show.Stages = show.Stages

@@ -42,7 +42,7 @@ fn without_end(line: &[u8]) -> Option<&str> {
 }
 
 impl Answer {
-    // The answer of a command that comes to these sheets.
+    // The answer of a command that has these sheets.
     pub(crate) fn done(alloc: Global, sheets: Vec<Sheet>) -> Answer
         ensures status { result.status ≡ Status.Done }
         ensures sheets { result.sheets.items ≡ sheets.items }
@@ -54,7 +54,7 @@ impl Answer {
         }
     }
 
-    // The answer of a command that comes to a legal fault, told by this line, and to these sheets.
+    // The answer of a command that ends in a legal fault, stated by this line, with these sheets.
     pub(crate) fn legal(line: Vec<u8>, sheets: Vec<Sheet>) -> Answer
         ensures status { result.status ≡ Status.Legal }
         ensures sheets { result.sheets.items ≡ sheets.items }

@@ -8,7 +8,7 @@ ghost use Rattle.sl_report_tables.specs.Parts.{cells_of};
 use crate::compare::{COMPARE, Judged, compared, fault_part, name_part, push_heads, seats_in};
 use crate::naming::Naming;
 use crate::rows::{Part, push_row, put_parts, titled};
-use crate::titles;
+use crate::texts::{CHANGES_TITLE, EACH_TITLE, NO_HEAD};
 use sl_ratio::NoMemory;
 use sl_report_forms::{Form, Look, Row, Sheet};
 use sl_stages::Returns;
@@ -16,11 +16,11 @@ use std::alloc::Global;
 
 // A row for each book and each party is for programs: for a person the books stand side by side.
 const EACH: [Form; 5] = [
-    ("book", "", "", Look::Hidden),
-    ("party", "", "", Look::Hidden),
-    ("party_name", "", "", Look::Hidden),
-    ("seats", "", "", Look::Hidden),
-    ("change", "", "", Look::Hidden),
+    ("book", NO_HEAD, Look::Hidden),
+    ("party", NO_HEAD, Look::Hidden),
+    ("party_name", NO_HEAD, Look::Hidden),
+    ("seats", NO_HEAD, Look::Hidden),
+    ("change", NO_HEAD, Look::Hidden),
 ];
 
 // How many seats more or fewer a book gives a party than the first one does, or all parties where none is given; nothing where one of the two has no count.
@@ -118,7 +118,7 @@ pub(crate) fn changes_sheet(
 ) -> Result<Sheet, NoMemory>
     ensures { IfOk result (λ s. table_of s ≡ changes_table naming.now.returns.now books.now) }
 {
-    let mut sheet = titled(alloc, naming, "changes", titles::CHANGES, &COMPARE)?;
+    let mut sheet = titled(alloc, naming, "changes", CHANGES_TITLE, &COMPARE)?;
     if books.len() < 2 {
         return Ok(sheet);
     }
@@ -199,7 +199,7 @@ pub(crate) fn each_sheet(
 ) -> Result<Sheet, NoMemory>
     ensures { IfOk result (λ s. table_of s ≡ seats_table naming.now.returns.now books.now) }
 {
-    let mut sheet = titled(alloc, naming, "seats", titles::EACH, &EACH)?;
+    let mut sheet = titled(alloc, naming, "seats", EACH_TITLE, &EACH)?;
     let Some(first) = books.first() else {
         return Ok(sheet);
     };

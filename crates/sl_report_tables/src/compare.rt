@@ -9,10 +9,13 @@ ghost use Rattle.sl_report_tables.specs.Parts.{cells_of};
 use crate::changes::{changes_sheet, each_sheet};
 use crate::faults::kind_word;
 use crate::lists_compared::list_seats_sheet;
-use crate::naming::{ALL, Naming, law_name, stage_name};
+use crate::naming::{Naming, law_name, stage_name};
 use crate::rows::{Part, push_row, put_parts, titled};
 use crate::stages::stage_number;
-use crate::titles;
+use crate::texts::{
+    ALL, BEYOND_HEAD, BOOK_HEAD, COMPARED_TITLE, DIFFERS_FROM_HEAD, FAULT_HEAD, LAW_HEAD, NO_HEAD,
+    NOT_SEATED_HEAD, PARTY_HEAD, RULEBOOKS_TITLE, SEATS_HEAD,
+};
 use sl_ratio::NoMemory;
 use sl_report_forms::{Form, Head, Look, Row, Sheet};
 use sl_report_results::{Column, Counted, house_of, open_winners, seats_in_all, seats_of};
@@ -29,19 +32,19 @@ pub struct Judged {
 }
 
 const BOOKS: [Form; 7] = [
-    ("book", "book", "Regelwerk", Look::Text(20)),
-    ("law", "law", "Gesetz", Look::Text(40)),
-    ("seats", "seats", "Sitze", Look::Number),
-    ("beyond", "beyond", "darüber", Look::Number),
-    ("open", "not seated", "ohne Sitz", Look::Number),
-    ("differs", "differs from", "anders ab", Look::Text(12)),
-    ("fault", "fault", "Fehler", Look::Text(14)),
+    ("book", BOOK_HEAD, Look::Text(20)),
+    ("law", LAW_HEAD, Look::Text(40)),
+    ("seats", SEATS_HEAD, Look::Number),
+    ("beyond", BEYOND_HEAD, Look::Number),
+    ("open", NOT_SEATED_HEAD, Look::Number),
+    ("differs", DIFFERS_FROM_HEAD, Look::Text(12)),
+    ("fault", FAULT_HEAD, Look::Text(14)),
 ];
 
 /// Who is compared.
 pub(crate) const COMPARE: [Form; 2] = [
-    ("party", "", "", Look::Hidden),
-    ("party_name", "party", "Partei", Look::Text(15)),
+    ("party", NO_HEAD, Look::Hidden),
+    ("party_name", PARTY_HEAD, Look::Text(15)),
 ];
 
 // The column of a stage of that name.
@@ -147,7 +150,7 @@ fn first_before(books: &[Judged], number: usize) -> Option<&Judged> {
 fn books_sheet(alloc: Global, naming: &Naming<'_>, books: &[Judged]) -> Result<Sheet, NoMemory>
     ensures { IfOk result (λ s. IsBooksTable naming.now.returns.now books.now (table_of s)) }
 {
-    let mut sheet = titled(alloc, naming, "books", titles::RULEBOOKS, &BOOKS)?;
+    let mut sheet = titled(alloc, naming, "books", RULEBOOKS_TITLE, &BOOKS)?;
     for (number, judged) in books.iter().enumerate() {
         let difference = difference_part(first_before(books, number), judged);
         push_book(alloc, &mut sheet, naming, judged, difference)?;
@@ -262,7 +265,7 @@ pub(crate) fn push_heads(alloc: Global, sheet: &mut Sheet, books: &[Judged]) -> 
 fn seats_sheet(alloc: Global, naming: &Naming<'_>, books: &[Judged]) -> Result<Sheet, NoMemory>
     ensures { IfOk result (λ s. table_of s ≡ compare_table naming.now.returns.now books.now) }
 {
-    let mut sheet = titled(alloc, naming, "compare", titles::COMPARED, &COMPARE)?;
+    let mut sheet = titled(alloc, naming, "compare", COMPARED_TITLE, &COMPARE)?;
     push_heads(alloc, &mut sheet, books)?;
     push_rows(alloc, &mut sheet, naming, books)?;
     Ok(sheet)

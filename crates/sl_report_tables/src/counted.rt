@@ -15,7 +15,7 @@ use crate::naming::{Naming, law_name};
 use crate::parties::{lists_sheet, open_sheet, parties_sheet, seat_parts, singles_sheet};
 use crate::rows::{Part, one_row_sheet};
 use crate::scopes::{entries_sheet, scopes_sheet};
-use crate::titles;
+use crate::texts::{DIRECT_HEAD, HOUSE_HEAD, LAW_HEAD, LAW_TITLE, SEATS_HEAD, VACANT_HEAD};
 use sl_ratio::NoMemory;
 use sl_report_forms::{Form, Look, Sheet};
 use sl_report_results::{Counted, Scoped, Seats, Setting, seats_in_all, stage_scopes};
@@ -23,11 +23,11 @@ use sl_stages::{Book, Table};
 use std::alloc::Global;
 
 const LAW: [Form; 5] = [
-    ("law", "law", "Gesetz", Look::Text(60)),
-    ("house", "house", "Hausgröße", Look::Number),
-    ("seats", "seats", "Sitze", Look::Number),
-    ("direct", "direct", "direkt", Look::Number),
-    ("vacant", "vacant", "unbesetzt", Look::Number),
+    ("law", LAW_HEAD, Look::Text(60)),
+    ("house", HOUSE_HEAD, Look::Number),
+    ("seats", SEATS_HEAD, Look::Number),
+    ("direct", DIRECT_HEAD, Look::Number),
+    ("vacant", VACANT_HEAD, Look::Number),
 ];
 
 // The seats in all, where a table is known.
@@ -57,7 +57,7 @@ pub(crate) fn law_sheet(
         direct,
         vacant,
     ];
-    one_row_sheet(alloc, naming, "law", titles::LAW, &LAW, &parts)
+    one_row_sheet(alloc, naming, "law", LAW_TITLE, &LAW, &parts)
 }
 
 /// The scopes of all stages.

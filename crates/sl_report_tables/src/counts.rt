@@ -2,7 +2,7 @@
 
 ghost use Rattle.std.specs.Prelude.{◌≡◌, IfOk, map};
 ghost use Rattle.sl_report_forms.specs.Tables.{table_of};
-ghost use Rattle.sl_report_tables.specs.Reports.{IsFaultReport, Shows};
+ghost use Rattle.sl_report_tables.specs.Reports.{IsFaultReport, Shows, beside};
 ghost use Rattle.sl_report_tables.specs.Ends.{HoldsEnd, end_status};
 ghost use Rattle.sl_stages.specs.book.Books.{book_of};
 
@@ -33,7 +33,9 @@ pub enum Show<'a> {
 
 impl Show<'_> {
     /// The same, beside the parties of an earlier seat table where one is given and shown.
-    pub fn beside<'a>(self, earlier: Option<&'a [EarlierParty<'a>]>) -> Show<'a> {
+    pub fn beside<'a>(self, earlier: Option<&'a [EarlierParty<'a>]>) -> Show<'a>
+        ensures { result ≡ beside earlier.entry self.entry }
+    {
         match self {
             Show::Report => Show::Report,
             Show::Short(_) => Show::Short(earlier),
@@ -88,7 +90,7 @@ fn sheets_of(
     }
 }
 
-// The answer with these sheets; a legal fault is told by this line.
+// The answer with these sheets; a legal fault is stated by this line.
 fn answer_of(alloc: Global, end: &End, line: Vec<u8>, sheets: Vec<Sheet>) -> Answer
     ensures status { result.status ≡ end_status end.now }
     ensures sheets { result.sheets.items ≡ sheets.items }
@@ -99,7 +101,7 @@ fn answer_of(alloc: Global, end: &End, line: Vec<u8>, sheets: Vec<Sheet>) -> Ans
     }
 }
 
-/// The answer that shows how the count of a good book on good returns ends; a legal fault is told by the line with which counting does.
+/// The answer that shows how the count of a good book on good returns ends; a legal fault is stated by the line with which counting does.
 pub fn count_answer(
     alloc: Global,
     show: Show<'_>,

@@ -7,7 +7,10 @@ ghost use Rattle.sl_report_tables.specs.Parties.{AreCovered, covering_table, ran
 
 use crate::naming::Naming;
 use crate::rows::{Part, push_row, titled};
-use crate::titles;
+use crate::texts::{
+    CONSTITUENCY_HEAD, COVERED_TITLE, FIRST_HEAD, LAND_HEAD, NO_HEAD, PARTY_HEAD, PERCENT_HEAD,
+    RANK_HEAD, SEATED_HEAD, VALID_HEAD,
+};
 use sl_ratio::NoMemory;
 use sl_report_forms::{Form, Look, Sheet};
 use sl_report_results::{Ranked, Setting, contested};
@@ -15,23 +18,18 @@ use sl_stages::{Seating, Table};
 use std::alloc::Global;
 
 const COVERING: [Form; 12] = [
-    ("land", "", "", Look::Hidden),
-    ("land_name", "Land", "Land", Look::Text(20)),
-    ("party", "", "", Look::Hidden),
-    ("party_name", "party", "Partei", Look::Text(14)),
-    ("constituency", "", "", Look::Hidden),
-    (
-        "constituency_name",
-        "constituency",
-        "Wahlkreis",
-        Look::Text(22),
-    ),
-    ("first", "first", "Erststimmen", Look::Number),
-    ("valid", "valid", "gültig", Look::Number),
-    ("percent", "percent", "Prozent", Look::Number),
-    ("percent_exact", "", "", Look::Hidden),
-    ("rank", "rank", "Rang", Look::Number),
-    ("seated", "seated", "Sitz", Look::Text(6)),
+    ("land", NO_HEAD, Look::Hidden),
+    ("land_name", LAND_HEAD, Look::Text(20)),
+    ("party", NO_HEAD, Look::Hidden),
+    ("party_name", PARTY_HEAD, Look::Text(14)),
+    ("constituency", NO_HEAD, Look::Hidden),
+    ("constituency_name", CONSTITUENCY_HEAD, Look::Text(22)),
+    ("first", FIRST_HEAD, Look::Number),
+    ("valid", VALID_HEAD, Look::Number),
+    ("percent", PERCENT_HEAD, Look::Number),
+    ("percent_exact", NO_HEAD, Look::Hidden),
+    ("rank", RANK_HEAD, Look::Number),
+    ("seated", SEATED_HEAD, Look::Text(6)),
 ];
 
 // Adds the row of a winner.
@@ -73,7 +71,7 @@ fn covered(alloc: Global, setting: &Setting<'_>, table: &Table) -> Result<Vec<Ra
 fn ranked_sheet(alloc: Global, naming: &Naming<'_>, winners: &[Ranked]) -> Result<Sheet, NoMemory>
     ensures { IfOk result (λ s. table_of s ≡ covering_table winners.now) }
 {
-    let mut sheet = titled(alloc, naming, "covering", titles::COVERED, &COVERING)?;
+    let mut sheet = titled(alloc, naming, "covering", COVERED_TITLE, &COVERING)?;
     for winner in winners {
         push_winner(alloc, &mut sheet, naming, *winner)?;
     }

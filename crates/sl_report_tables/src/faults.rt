@@ -8,6 +8,11 @@ ghost use Rattle.sl_report_tables.specs.Parts.{cells_of};
 
 use crate::naming::{Naming, stage_name, text_of};
 use crate::rows::{Part, one_row_sheet, titled};
+use crate::texts::{
+    CODE_HEAD, EXPLANATION_TITLE, FAULT_TITLE, KIND_CAP, KIND_HEAD, KIND_LIMIT, KIND_MAJORITY,
+    KIND_NO_LIST, KIND_SHORT, KIND_TIE, NAMES_HEAD, NO_HEAD, SCOPE_HEAD, SEATS_HEAD, STAGE_HEAD,
+    WHAT_HAPPENED_AND_WHAT_TO_DO_HEAD,
+};
 use sl_explain_faults::explain_legal;
 use sl_explain_texts::{Explanation, Message};
 use sl_ratio::NoMemory;
@@ -16,59 +21,26 @@ use sl_stages::{Book, FaultKind, LegalFault};
 use std::alloc::Global;
 
 const FAULT: [Form; 7] = [
-    ("code", "code", "Code", Look::Text(4)),
-    ("stage", "stage", "Stufe", Look::Text(12)),
-    ("scope", "", "", Look::Hidden),
-    ("scope_name", "scope", "Bereich", Look::Text(28)),
-    ("kind", "kind", "Art", Look::Text(14)),
-    ("seats", "seats", "Sitze", Look::Number),
-    ("names", "names", "Namen", Look::Text(36)),
+    ("code", CODE_HEAD, Look::Text(4)),
+    ("stage", STAGE_HEAD, Look::Text(12)),
+    ("scope", NO_HEAD, Look::Hidden),
+    ("scope_name", SCOPE_HEAD, Look::Text(28)),
+    ("kind", KIND_HEAD, Look::Text(14)),
+    ("seats", SEATS_HEAD, Look::Number),
+    ("names", NAMES_HEAD, Look::Text(36)),
 ];
 
-const EXPLANATION: [Form; 1] = [(
-    "text",
-    "what happened, and what to do",
-    "was geschah, und was zu tun ist",
-    Look::Text(240),
-)];
-
-const FAULT_TITLE: Message = Message {
-    english: "Legal fault",
-    german: "Rechtlicher Fehler",
-};
-
-const EXPLANATION_TITLE: Message = Message {
-    english: "Explanation",
-    german: "Erklärung",
-};
+const EXPLANATION: [Form; 1] = [("text", WHAT_HAPPENED_AND_WHAT_TO_DO_HEAD, Look::Text(240))];
 
 /// The word of a kind of faults.
 pub fn kind_word(kind: &FaultKind) -> Message {
     match kind {
-        FaultKind::Limit => Message {
-            english: "limit",
-            german: "Grenze",
-        },
-        FaultKind::Short => Message {
-            english: "short",
-            german: "zu wenig Sitze",
-        },
-        FaultKind::NoList => Message {
-            english: "nolist",
-            german: "keine Liste",
-        },
-        FaultKind::Tie { .. } => Message {
-            english: "tie",
-            german: "Gleichstand",
-        },
-        FaultKind::Majority => Message {
-            english: "majority",
-            german: "Mehrheit",
-        },
-        FaultKind::Cap => Message {
-            english: "cap",
-            german: "Obergrenze",
-        },
+        FaultKind::Limit => KIND_LIMIT,
+        FaultKind::Short => KIND_SHORT,
+        FaultKind::NoList => KIND_NO_LIST,
+        FaultKind::Tie { .. } => KIND_TIE,
+        FaultKind::Majority => KIND_MAJORITY,
+        FaultKind::Cap => KIND_CAP,
     }
 }
 

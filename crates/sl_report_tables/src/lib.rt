@@ -28,7 +28,7 @@ mod rows;
 mod scopes;
 mod stages;
 mod sums;
-mod titles;
+mod texts;
 mod totals;
 mod warnings;
 mod words;

@@ -13,17 +13,17 @@ use crate::compare::{Judged, fault_part, push_heads};
 use crate::local::{Local, lines_in};
 use crate::naming::Naming;
 use crate::rows::{Part, put_parts, titled};
-use crate::titles;
+use crate::texts::{LAND_HEAD, LIST_SEATS_TITLE, NO_HEAD, PARTY_HEAD};
 use sl_ratio::NoMemory;
 use sl_report_forms::{Form, Look, Row, Sheet};
 use sl_stages::ListSeats;
 use std::alloc::Global;
 
 const LISTS: [Form; 4] = [
-    ("land", "", "", Look::Hidden),
-    ("land_name", "Land", "Land", Look::Text(22)),
-    ("party", "", "", Look::Hidden),
-    ("party_name", "party", "Partei", Look::Text(15)),
+    ("land", NO_HEAD, Look::Hidden),
+    ("land_name", LAND_HEAD, Look::Text(22)),
+    ("party", NO_HEAD, Look::Hidden),
+    ("party_name", PARTY_HEAD, Look::Text(15)),
 ];
 
 // The seats of a line, if it is that of the list.
@@ -192,7 +192,7 @@ pub(crate) fn list_seats_sheet(
 ) -> Result<Sheet, NoMemory>
     ensures { IfOk result (λ s. table_of s ≡ list_seats_table naming.now.returns.now books.now) }
 {
-    let mut sheet = titled(alloc, naming, "list_seats", titles::LIST_SEATS, &LISTS)?;
+    let mut sheet = titled(alloc, naming, "list_seats", LIST_SEATS_TITLE, &LISTS)?;
     push_heads(alloc, &mut sheet, books)?;
     for land in 0..naming.returns.lands() {
         push_lists(alloc, &mut sheet, naming, books, land)?;

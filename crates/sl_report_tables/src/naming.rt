@@ -1,7 +1,8 @@
 //! The names of what returns number: short ones, and the full ones where they are given.
 
 use crate::full_names::FullNames;
-use sl_explain_texts::{Language, Message};
+use crate::texts::ALL;
+use sl_explain_texts::Language;
 use sl_ratio::NoMemory;
 use sl_stages::{Book, Item, Returns, Scope};
 use std::alloc::Global;
@@ -13,12 +14,6 @@ pub struct Naming<'a> {
     pub full: &'a FullNames,
     pub language: Language,
 }
-
-/// The word for all Länder and parties together, and for a single number.
-pub const ALL: Message = Message {
-    english: "all",
-    german: "alle",
-};
 
 // A name of returns as text, whose bytes are letters, digits and the like; or another text that is UTF-8.
 pub(crate) fn text_of(name: &[u8]) -> &str {

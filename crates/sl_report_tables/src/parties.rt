@@ -10,7 +10,11 @@ ghost use Rattle.sl_stages.specs.returns.Facts.{all_valid_votes};
 
 use crate::naming::Naming;
 use crate::rows::{Part, push_row, titled};
-use crate::titles;
+use crate::texts::{
+    CONSTITUENCY_HEAD, COUNTED_HEAD, DIRECT_HEAD, LAND_HEAD, LISTS_TITLE, NO_HEAD, NO_PARTY,
+    OPEN_TITLE, PARTIES_TITLE, PARTY_HEAD, PERCENT_HEAD, SEATS_HEAD, SINGLES_TITLE,
+    TAKES_PART_BY_HEAD, VACANT_HEAD, VALID_HEAD,
+};
 use sl_explain_texts::Message;
 use sl_ratio::NoMemory;
 use sl_report_forms::{Form, Look, Sheet};
@@ -19,47 +23,37 @@ use sl_stages::{ListSeats, Placed, Returns, Table, Win};
 use std::alloc::Global;
 
 const PARTIES: [Form; 10] = [
-    ("party", "", "", Look::Hidden),
-    ("party_name", "party", "Partei", Look::Text(24)),
-    ("valid", "valid", "gültig", Look::Number),
-    ("percent", "percent", "Prozent", Look::Number),
-    ("percent_exact", "", "", Look::Hidden),
-    ("counted", "counted", "zählend", Look::Number),
-    (
-        "condition",
-        "takes part by",
-        "nimmt teil durch",
-        Look::Text(14),
-    ),
-    ("seats", "seats", "Sitze", Look::Number),
-    ("direct", "direct", "direkt", Look::Number),
-    ("vacant", "vacant", "unbesetzt", Look::Number),
+    ("party", NO_HEAD, Look::Hidden),
+    ("party_name", PARTY_HEAD, Look::Text(24)),
+    ("valid", VALID_HEAD, Look::Number),
+    ("percent", PERCENT_HEAD, Look::Number),
+    ("percent_exact", NO_HEAD, Look::Hidden),
+    ("counted", COUNTED_HEAD, Look::Number),
+    ("condition", TAKES_PART_BY_HEAD, Look::Text(14)),
+    ("seats", SEATS_HEAD, Look::Number),
+    ("direct", DIRECT_HEAD, Look::Number),
+    ("vacant", VACANT_HEAD, Look::Number),
 ];
 
 const LISTS: [Form; 9] = [
-    ("land", "", "", Look::Hidden),
-    ("land_name", "Land", "Land", Look::Text(28)),
-    ("party", "", "", Look::Hidden),
-    ("party_name", "party", "Partei", Look::Text(28)),
-    ("valid", "", "", Look::Hidden),
-    ("counted", "counted", "zählend", Look::Number),
-    ("seats", "seats", "Sitze", Look::Number),
-    ("direct", "direct", "direkt", Look::Number),
-    ("vacant", "vacant", "unbesetzt", Look::Number),
+    ("land", NO_HEAD, Look::Hidden),
+    ("land_name", LAND_HEAD, Look::Text(28)),
+    ("party", NO_HEAD, Look::Hidden),
+    ("party_name", PARTY_HEAD, Look::Text(28)),
+    ("valid", NO_HEAD, Look::Hidden),
+    ("counted", COUNTED_HEAD, Look::Number),
+    ("seats", SEATS_HEAD, Look::Number),
+    ("direct", DIRECT_HEAD, Look::Number),
+    ("vacant", VACANT_HEAD, Look::Number),
 ];
 
 const WINNERS: [Form; 6] = [
-    ("constituency", "", "", Look::Hidden),
-    (
-        "constituency_name",
-        "constituency",
-        "Wahlkreis",
-        Look::Text(40),
-    ),
-    ("land", "", "", Look::Hidden),
-    ("land_name", "Land", "Land", Look::Text(26)),
-    ("party", "", "", Look::Hidden),
-    ("party_name", "party", "Partei", Look::Text(26)),
+    ("constituency", NO_HEAD, Look::Hidden),
+    ("constituency_name", CONSTITUENCY_HEAD, Look::Text(40)),
+    ("land", NO_HEAD, Look::Hidden),
+    ("land_name", LAND_HEAD, Look::Text(26)),
+    ("party", NO_HEAD, Look::Hidden),
+    ("party_name", PARTY_HEAD, Look::Text(26)),
 ];
 
 /// The parts of seats, where a table is known.
@@ -125,7 +119,7 @@ pub(crate) fn parties_sheet(
 ) -> Result<Sheet, NoMemory>
     ensures { IfOk result (λ s. table_of s ≡ parties_table setting.now.book.now.eligible.items setting.now.returns.now (option_map (λ t. t.now) table.entry)) }
 {
-    let mut sheet = titled(alloc, naming, "parties", titles::PARTIES, &PARTIES)?;
+    let mut sheet = titled(alloc, naming, "parties", PARTIES_TITLE, &PARTIES)?;
     let valid = all_votes(setting.returns).valid;
     for party in 0..setting.returns.parties() {
         push_party(alloc, &mut sheet, setting, naming, table, valid, party)?;
@@ -172,7 +166,7 @@ pub(crate) fn lists_sheet(
 ) -> Result<Sheet, NoMemory>
     ensures { IfOk result (λ s. table_of s ≡ lists_table returns.now table.now) }
 {
-    let mut sheet = titled(alloc, naming, "lists", titles::LISTS, &LISTS)?;
+    let mut sheet = titled(alloc, naming, "lists", LISTS_TITLE, &LISTS)?;
     for list in table.lists() {
         push_list(alloc, &mut sheet, returns, naming, *list)?;
     }
@@ -185,7 +179,7 @@ fn party_part(party: Option<usize>) -> Part<'static>
 {
     match party {
         Some(party) => Part::Party(party),
-        None => Part::InPlace(titles::NO_PARTY),
+        None => Part::InPlace(NO_PARTY),
     }
 }
 
@@ -269,7 +263,7 @@ pub(crate) fn singles_sheet(
         naming,
         table,
         "singles",
-        titles::SINGLES,
+        SINGLES_TITLE,
         Placed::Single,
     )
 }
@@ -289,7 +283,7 @@ pub(crate) fn open_sheet(
         naming,
         table,
         "open",
-        titles::OPEN,
+        OPEN_TITLE,
         Placed::Unseated,
     )
 }

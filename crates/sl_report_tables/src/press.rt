@@ -17,10 +17,14 @@ ghost use Rattle.sl_stages.specs.meaning.Counts.{HoldsStages};
 ghost use Rattle.sl_stages.specs.returns.Facts.{all_valid_votes};
 
 use crate::counted::{all_scopes, law_sheet};
-use crate::naming::{ALL, Naming};
+use crate::naming::Naming;
 use crate::rows::{Part, push_row, titled};
 use crate::scopes::{SCOPES, push_scope};
-use crate::titles;
+use crate::texts::{
+    ALL, BEFORE_HEAD, CHANGE_HEAD, LACKS_VOTES_HEAD, LACKS_WINNERS_HEAD, LAST_SEATS_TITLE,
+    LEFT_OUT_TITLE, NAME_HEAD, PARTY_HEAD, PERCENT_HEAD, PRESS_TITLE, SEATED_DIRECT_HEAD,
+    SEATS_HEAD, VOTES_HEAD, WON_HEAD,
+};
 use sl_ratio::NoMemory;
 use sl_report_forms::{Form, Look, Sheet};
 use sl_report_results::{
@@ -31,29 +35,24 @@ use sl_stages::{Book, Cond, Scope, Table};
 use std::alloc::Global;
 
 const PRESS: [Form; 9] = [
-    ("party", "party", "Partei", Look::Text(12)),
-    ("party_name", "name", "Name", Look::Text(30)),
-    ("seats", "seats", "Sitze", Look::Number),
-    ("before", "before", "zuvor", Look::Number),
-    ("change", "change", "Änderung", Look::Number),
-    ("won", "won", "gewonnen", Look::Number),
-    ("direct", "seated", "mit Sitz", Look::Number),
-    ("valid", "votes", "Stimmen", Look::Number),
-    ("percent", "percent", "Prozent", Look::Number),
+    ("party", PARTY_HEAD, Look::Text(12)),
+    ("party_name", NAME_HEAD, Look::Text(30)),
+    ("seats", SEATS_HEAD, Look::Number),
+    ("before", BEFORE_HEAD, Look::Number),
+    ("change", CHANGE_HEAD, Look::Number),
+    ("won", WON_HEAD, Look::Number),
+    ("direct", SEATED_DIRECT_HEAD, Look::Number),
+    ("valid", VOTES_HEAD, Look::Number),
+    ("percent", PERCENT_HEAD, Look::Number),
 ];
 
 const LEFT_OUT: [Form; 6] = [
-    ("party", "party", "Partei", Look::Text(12)),
-    ("party_name", "name", "Name", Look::Text(30)),
-    ("valid", "votes", "Stimmen", Look::Number),
-    ("percent", "percent", "Prozent", Look::Number),
-    ("votes_short", "lacks votes", "Stimmen fehlen", Look::Number),
-    (
-        "winners_short",
-        "lacks winners",
-        "Wahlkreise fehlen",
-        Look::Number,
-    ),
+    ("party", PARTY_HEAD, Look::Text(12)),
+    ("party_name", NAME_HEAD, Look::Text(30)),
+    ("valid", VOTES_HEAD, Look::Number),
+    ("percent", PERCENT_HEAD, Look::Number),
+    ("votes_short", LACKS_VOTES_HEAD, Look::Number),
+    ("winners_short", LACKS_WINNERS_HEAD, Look::Number),
 ];
 
 // The seats before, and by how many there are more or fewer, where these are known.
@@ -216,7 +215,7 @@ fn press_sheet(
 {
     let found = by_seats(alloc, setting, table, earlier)?;
     let valid = all_votes(naming.returns).valid;
-    let mut sheet = titled(alloc, naming, "press", titles::PRESS, &PRESS)?;
+    let mut sheet = titled(alloc, naming, "press", PRESS_TITLE, &PRESS)?;
     push_each(alloc, &mut sheet, naming, found.as_slice(), valid)?;
     push_gone_from(alloc, &mut sheet, naming, earlier)?;
     push_sum(alloc, &mut sheet, naming, table, earlier, valid)?;
@@ -259,7 +258,7 @@ fn whole_sheet(
 ) -> Result<Sheet, NoMemory>
     ensures { IfOk result (λ s. table_of s ≡ scopes_table (filter is_whole scopes.now)) }
 {
-    let mut sheet = titled(alloc, naming, "scopes", titles::LAST_SEATS, &SCOPES)?;
+    let mut sheet = titled(alloc, naming, "scopes", LAST_SEATS_TITLE, &SCOPES)?;
     for scoped in scopes {
         push_whole(alloc, &mut sheet, book, naming, scoped)?;
     }
@@ -316,7 +315,7 @@ fn lacking_sheet(
 {
     let conditions = setting.book.eligible.as_slice();
     let found = left_out(alloc, setting)?;
-    let mut sheet = titled(alloc, naming, "left_out", titles::LEFT_OUT, &LEFT_OUT)?;
+    let mut sheet = titled(alloc, naming, "left_out", LEFT_OUT_TITLE, &LEFT_OUT)?;
     push_first(alloc, &mut sheet, conditions, naming, found.as_slice())?;
     Ok(sheet)
 }

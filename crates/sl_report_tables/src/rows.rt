@@ -8,7 +8,8 @@ ghost use Rattle.sl_report_tables.specs.Parts.{a_name, cells_of, condition_cell,
 
 use crate::lowest::lowest;
 use crate::naming::{Naming, land_name, party_name, win_name};
-use crate::words::{NO, YES, condition_text};
+use crate::texts::{NO, YES};
+use crate::words::condition_text;
 use sl_explain_texts::{Language, Message};
 use sl_ratio::NoMemory;
 use sl_report_forms::{Form, Row, Sheet};

@@ -9,7 +9,11 @@ ghost use Rattle.sl_report_tables.specs.Scopes.{divisor_cell, entries_table, ent
 use crate::lowest::lowest_text;
 use crate::naming::{Naming, stage_name};
 use crate::rows::{Part, push_name, push_row, put_parts, titled};
-use crate::titles;
+use crate::texts::{
+    DISTRIBUTIONS_TITLE, DIVISOR_HEAD, DRAWN_HEAD, ENTRY_HEAD, LAST_SEAT_HEAD, LOT_HEAD,
+    METHOD_HEAD, MINIMUM_HEAD, NEXT_CLAIM_HEAD, NO_HEAD, QUOTA_HEAD, QUOTIENT_HEAD, SCOPE_HEAD,
+    SEATS_HEAD, STAGE_HEAD, STAGE_TITLE, VOTES_HEAD, VOTES_MISSING_HEAD,
+};
 use crate::words::method_word;
 use sl_ratio::NoMemory;
 use sl_report_forms::{Form, Look, Row, Sheet};
@@ -19,37 +23,37 @@ use std::alloc::Global;
 
 /// The columns of scopes.
 pub(crate) const SCOPES: [Form; 14] = [
-    ("stage", "stage", "Stufe", Look::Text(10)),
-    ("scope", "", "", Look::Hidden),
-    ("scope_name", "scope", "Bereich", Look::Text(20)),
-    ("method", "method", "Verfahren", Look::Text(9)),
-    ("grows", "", "", Look::Hidden),
-    ("minima", "", "", Look::Hidden),
-    ("votes", "", "", Look::Hidden),
-    ("seats", "seats", "Sitze", Look::Number),
-    ("divisor", "divisor", "Divisor", Look::Number),
-    ("quota", "quota", "Quote", Look::Number),
-    ("quota_exact", "", "", Look::Hidden),
-    ("last", "last seat", "letzter Sitz", Look::Text(14)),
-    ("next", "next claim", "nächster Anspruch", Look::Text(14)),
-    ("lot", "", "", Look::Hidden),
+    ("stage", STAGE_HEAD, Look::Text(10)),
+    ("scope", NO_HEAD, Look::Hidden),
+    ("scope_name", SCOPE_HEAD, Look::Text(20)),
+    ("method", METHOD_HEAD, Look::Text(9)),
+    ("grows", NO_HEAD, Look::Hidden),
+    ("minima", NO_HEAD, Look::Hidden),
+    ("votes", NO_HEAD, Look::Hidden),
+    ("seats", SEATS_HEAD, Look::Number),
+    ("divisor", DIVISOR_HEAD, Look::Number),
+    ("quota", QUOTA_HEAD, Look::Number),
+    ("quota_exact", NO_HEAD, Look::Hidden),
+    ("last", LAST_SEAT_HEAD, Look::Text(14)),
+    ("next", NEXT_CLAIM_HEAD, Look::Text(14)),
+    ("lot", NO_HEAD, Look::Hidden),
 ];
 
 const ENTRIES: [Form; 14] = [
-    ("stage", "", "", Look::Hidden),
-    ("scope", "", "", Look::Hidden),
-    ("entry", "", "", Look::Hidden),
-    ("entry_name", "entry", "Eintrag", Look::Text(36)),
-    ("land", "", "", Look::Hidden),
-    ("party", "", "", Look::Hidden),
-    ("votes", "votes", "Stimmen", Look::Number),
-    ("quotient", "quotient", "Quotient", Look::Number),
-    ("quotient_exact", "", "", Look::Hidden),
-    ("seats", "seats", "Sitze", Look::Number),
-    ("minimum", "minimum", "Minimum", Look::Number),
-    ("missing", "votes missing", "Stimmen fehlen", Look::Number),
-    ("lot", "lot", "Los", Look::Text(4)),
-    ("place", "drawn", "gezogen", Look::Number),
+    ("stage", NO_HEAD, Look::Hidden),
+    ("scope", NO_HEAD, Look::Hidden),
+    ("entry", NO_HEAD, Look::Hidden),
+    ("entry_name", ENTRY_HEAD, Look::Text(36)),
+    ("land", NO_HEAD, Look::Hidden),
+    ("party", NO_HEAD, Look::Hidden),
+    ("votes", VOTES_HEAD, Look::Number),
+    ("quotient", QUOTIENT_HEAD, Look::Number),
+    ("quotient_exact", NO_HEAD, Look::Hidden),
+    ("seats", SEATS_HEAD, Look::Number),
+    ("minimum", MINIMUM_HEAD, Look::Number),
+    ("missing", VOTES_MISSING_HEAD, Look::Number),
+    ("lot", LOT_HEAD, Look::Text(4)),
+    ("place", DRAWN_HEAD, Look::Number),
 ];
 
 // The short names of the entries of these numbers.
@@ -165,7 +169,7 @@ pub(crate) fn scopes_sheet(
 ) -> Result<Sheet, NoMemory>
     ensures { IfOk result (λ s. table_of s ≡ scopes_table scopes.now) }
 {
-    let mut sheet = titled(alloc, naming, "scopes", titles::DISTRIBUTIONS, &SCOPES)?;
+    let mut sheet = titled(alloc, naming, "scopes", DISTRIBUTIONS_TITLE, &SCOPES)?;
     for scoped in scopes {
         push_scope(alloc, &mut sheet, book, naming, scoped)?;
     }
@@ -218,7 +222,7 @@ fn entries_title(
     naming: &Naming<'_>,
     scope: Scope,
 ) -> Result<String, NoMemory> {
-    let word = titles::STAGE.in_language(naming.language);
+    let word = STAGE_TITLE.in_language(naming.language);
     let scope = naming.long_scope(alloc, naming.language, scope)?;
     Ok(format!(in alloc; "{word} {stage}, {scope}")?)
 }

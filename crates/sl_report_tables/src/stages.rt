@@ -6,9 +6,12 @@ ghost use Rattle.sl_report_forms.specs.Tables.{table_of, with_rows};
 ghost use Rattle.sl_report_tables.specs.Stages.{cell_row, cell_rows, cells_table, stage_row, stage_tables, stages_table};
 ghost use Rattle.sl_stages.specs.meaning.Scopes.{entries_of};
 
-use crate::naming::{ALL, Naming, stage_name};
+use crate::naming::{Naming, stage_name};
 use crate::rows::{Part, push_row, titled};
-use crate::titles;
+use crate::texts::{
+    ALL, ENTRY_HEAD, NO_HEAD, NUMBER_HEAD, SHAPE_HEAD, STAGE_HEAD, STAGE_TITLE, STAGES_TITLE,
+    SUM_HEAD, UNIT_HEAD, VALUE_HEAD,
+};
 use crate::words::{shape_word, unit_word};
 use sl_check::types_of;
 use sl_ratio::NoMemory;
@@ -18,18 +21,18 @@ use sl_stages::{Book, ColumnType, Item, Scope, Shape, Unit};
 use std::alloc::Global;
 
 const STAGES: [Form; 5] = [
-    ("number", "number", "Nummer", Look::Number),
-    ("stage", "stage", "Stufe", Look::Text(12)),
-    ("shape", "shape", "Form", Look::Text(9)),
-    ("unit", "unit", "Einheit", Look::Text(8)),
-    ("sum", "sum", "Summe", Look::Number),
+    ("number", NUMBER_HEAD, Look::Number),
+    ("stage", STAGE_HEAD, Look::Text(12)),
+    ("shape", SHAPE_HEAD, Look::Text(9)),
+    ("unit", UNIT_HEAD, Look::Text(8)),
+    ("sum", SUM_HEAD, Look::Number),
 ];
 
 const CELLS: [Form; 4] = [
-    ("stage", "", "", Look::Hidden),
-    ("entry", "", "", Look::Hidden),
-    ("entry_name", "entry", "Eintrag", Look::Text(60)),
-    ("value", "value", "Wert", Look::Number),
+    ("stage", NO_HEAD, Look::Hidden),
+    ("entry", NO_HEAD, Look::Hidden),
+    ("entry_name", ENTRY_HEAD, Look::Text(60)),
+    ("value", VALUE_HEAD, Look::Number),
 ];
 
 /// The number of the stage of that name, if there is one.
@@ -91,7 +94,7 @@ fn stages_sheet(
 ) -> Result<Sheet, NoMemory>
     ensures { IfOk result (λ s. table_of s ≡ stages_table columns.now) }
 {
-    let mut sheet = titled(alloc, naming, "stages", titles::STAGES, &STAGES)?;
+    let mut sheet = titled(alloc, naming, "stages", STAGES_TITLE, &STAGES)?;
     let types = types_of(book.stages.as_slice());
     push_stages(alloc, &mut sheet, book, naming, &types, columns)?;
     Ok(sheet)
@@ -177,7 +180,7 @@ fn cells_sheet(
 ) -> Result<Sheet, NoMemory>
     ensures { IfOk result (λ s. table_of s ≡ cells_table naming.now.returns.now column.now) }
 {
-    let word = titles::STAGE.in_language(naming.language);
+    let word = STAGE_TITLE.in_language(naming.language);
     let title = format!(in alloc; "{word} {stage}")?;
     let mut sheet = Sheet::new(alloc, naming.language, "cells", title, &CELLS)?;
     push_cells(alloc, &mut sheet, stage, naming, column)?;

@@ -10,7 +10,11 @@ ghost use Rattle.sl_stages.specs.returns.Facts.{all_valid_votes};
 
 use crate::naming::Naming;
 use crate::rows::{Part, one_row_sheet, push_row, titled};
-use crate::titles;
+use crate::texts::{
+    COUNTED_HEAD, LACKS_VOTES_HEAD, LACKS_WINNERS_HEAD, LAND_HEAD, LANDS_HEAD, LANDS_TITLE,
+    LISTS_HEAD, NO_HEAD, PARTIES_HEAD, PARTIES_TITLE, PARTY_HEAD, PEOPLE_HEAD, PERCENT_HEAD,
+    TAKES_PART_BY_HEAD, TOTALS_TITLE, VALID_HEAD, WINNERS_HEAD, WINNERS_TITLE, WITHOUT_PARTY_HEAD,
+};
 use crate::warnings::warnings_sheet;
 use sl_ratio::NoMemory;
 use sl_report_forms::{Form, Look, Sheet};
@@ -22,56 +26,46 @@ use sl_stages::{Book, Cond};
 use std::alloc::Global;
 
 const TOTALS: [Form; 8] = [
-    ("valid", "valid", "gültig", Look::Number),
-    ("counted", "counted", "zählend", Look::Number),
-    ("people", "people", "Einwohner", Look::Number),
-    ("lands", "Länder", "Länder", Look::Number),
-    ("parties", "parties", "Parteien", Look::Number),
-    ("lists", "lists", "Listen", Look::Number),
-    ("winners", "winners", "Wahlkreise", Look::Number),
-    ("independents", "without party", "ohne Partei", Look::Number),
+    ("valid", VALID_HEAD, Look::Number),
+    ("counted", COUNTED_HEAD, Look::Number),
+    ("people", PEOPLE_HEAD, Look::Number),
+    ("lands", LANDS_HEAD, Look::Number),
+    ("parties", PARTIES_HEAD, Look::Number),
+    ("lists", LISTS_HEAD, Look::Number),
+    ("winners", WINNERS_HEAD, Look::Number),
+    ("independents", WITHOUT_PARTY_HEAD, Look::Number),
 ];
 
 const VOTES: [Form; 11] = [
-    ("party", "", "", Look::Hidden),
-    ("party_name", "party", "Partei", Look::Text(24)),
-    ("valid", "valid", "gültig", Look::Number),
-    ("percent", "percent", "Prozent", Look::Number),
-    ("percent_exact", "", "", Look::Hidden),
-    ("counted", "counted", "zählend", Look::Number),
-    ("lists", "", "", Look::Hidden),
-    ("winners", "winners", "Wahlkreise", Look::Number),
-    (
-        "condition",
-        "takes part by",
-        "nimmt teil durch",
-        Look::Text(14),
-    ),
-    ("votes_short", "lacks votes", "Stimmen fehlen", Look::Number),
-    (
-        "winners_short",
-        "lacks winners",
-        "Wahlkreise fehlen",
-        Look::Number,
-    ),
+    ("party", NO_HEAD, Look::Hidden),
+    ("party_name", PARTY_HEAD, Look::Text(24)),
+    ("valid", VALID_HEAD, Look::Number),
+    ("percent", PERCENT_HEAD, Look::Number),
+    ("percent_exact", NO_HEAD, Look::Hidden),
+    ("counted", COUNTED_HEAD, Look::Number),
+    ("lists", NO_HEAD, Look::Hidden),
+    ("winners", WINNERS_HEAD, Look::Number),
+    ("condition", TAKES_PART_BY_HEAD, Look::Text(14)),
+    ("votes_short", LACKS_VOTES_HEAD, Look::Number),
+    ("winners_short", LACKS_WINNERS_HEAD, Look::Number),
 ];
 
 const LANDS: [Form; 7] = [
-    ("land", "", "", Look::Hidden),
-    ("land_name", "Land", "Land", Look::Text(30)),
-    ("people", "people", "Einwohner", Look::Number),
-    ("valid", "valid", "gültig", Look::Number),
-    ("counted", "counted", "zählend", Look::Number),
-    ("winners", "winners", "Wahlkreise", Look::Number),
-    ("independents", "without party", "ohne Partei", Look::Number),
+    ("land", NO_HEAD, Look::Hidden),
+    ("land_name", LAND_HEAD, Look::Text(30)),
+    ("people", PEOPLE_HEAD, Look::Number),
+    ("valid", VALID_HEAD, Look::Number),
+    ("counted", COUNTED_HEAD, Look::Number),
+    ("winners", WINNERS_HEAD, Look::Number),
+    ("independents", WITHOUT_PARTY_HEAD, Look::Number),
 ];
 
 const WINNERS: [Form; 5] = [
-    ("land", "", "", Look::Hidden),
-    ("land_name", "Land", "Land", Look::Text(34)),
-    ("party", "", "", Look::Hidden),
-    ("party_name", "party", "Partei", Look::Text(34)),
-    ("winners", "winners", "Wahlkreise", Look::Number),
+    ("land", NO_HEAD, Look::Hidden),
+    ("land_name", LAND_HEAD, Look::Text(34)),
+    ("party", NO_HEAD, Look::Hidden),
+    ("party_name", PARTY_HEAD, Look::Text(34)),
+    ("winners", WINNERS_HEAD, Look::Number),
 ];
 
 // The sums of all returns.
@@ -90,7 +84,7 @@ fn totals_sheet(alloc: Global, naming: &Naming<'_>) -> Result<Sheet, NoMemory>
         Part::Number(returns.wins() as u64),
         Part::Number(winners_of(returns, None)),
     ];
-    one_row_sheet(alloc, naming, "totals", titles::TOTALS, &TOTALS, &parts)
+    one_row_sheet(alloc, naming, "totals", TOTALS_TITLE, &TOTALS, &parts)
 }
 
 // Adds the row of a party, of so many valid votes in all.
@@ -126,7 +120,7 @@ fn push_party(
 fn votes_sheet(alloc: Global, conditions: &[Cond], naming: &Naming<'_>) -> Result<Sheet, NoMemory>
     ensures { IfOk result (λ s. IsVotesTable conditions.now naming.now.returns.now (table_of s)) }
 {
-    let mut sheet = titled(alloc, naming, "votes", titles::PARTIES, &VOTES)?;
+    let mut sheet = titled(alloc, naming, "votes", PARTIES_TITLE, &VOTES)?;
     let valid = all_votes(naming.returns).valid;
     for party in 0..naming.returns.parties() {
         push_party(alloc, &mut sheet, conditions, naming, party, valid)?;
@@ -160,7 +154,7 @@ fn push_land(
 fn lands_sheet(alloc: Global, naming: &Naming<'_>) -> Result<Sheet, NoMemory>
     ensures { IfOk result (λ s. table_of s ≡ lands_table naming.now.returns.now) }
 {
-    let mut sheet = titled(alloc, naming, "lands", titles::LANDS, &LANDS)?;
+    let mut sheet = titled(alloc, naming, "lands", LANDS_TITLE, &LANDS)?;
     for land in 0..naming.returns.lands() {
         push_land(alloc, &mut sheet, naming, land)?;
     }
@@ -204,7 +198,7 @@ fn push_winners(
 fn winners_sheet(alloc: Global, naming: &Naming<'_>) -> Result<Sheet, NoMemory>
     ensures { IfOk result (λ s. table_of s ≡ winners_table naming.now.returns.now) }
 {
-    let mut sheet = titled(alloc, naming, "winners", titles::WINNERS, &WINNERS)?;
+    let mut sheet = titled(alloc, naming, "winners", WINNERS_TITLE, &WINNERS)?;
     for land in 0..naming.returns.lands() {
         push_winners(alloc, &mut sheet, naming, land)?;
     }

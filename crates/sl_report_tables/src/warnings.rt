@@ -9,7 +9,7 @@ ghost use Rattle.sl_stages.specs.book.Books.{book_of};
 
 use crate::naming::Naming;
 use crate::rows::titled;
-use crate::titles;
+use crate::texts::{NO_HEAD, WARNING_HEAD, WARNINGS_TITLE};
 use sl_ratio::NoMemory;
 use sl_report_forms::{Form, Look, Row, Sheet};
 use sl_report_warnings::{Warning, sentence, warnings_of};
@@ -17,8 +17,8 @@ use sl_stages::Book;
 use std::alloc::Global;
 
 const WARNINGS: [Form; 2] = [
-    ("warning", "", "", Look::Hidden),
-    ("text", "warning", "Warnung", Look::Text(98)),
+    ("warning", NO_HEAD, Look::Hidden),
+    ("text", WARNING_HEAD, Look::Text(98)),
 ];
 
 // Adds the row of a warning: its kind, and its sentence.
@@ -41,7 +41,7 @@ fn push_warning(
 fn sheet_of(alloc: Global, naming: &Naming<'_>, warnings: &[Warning]) -> Result<Sheet, NoMemory>
     ensures { IfOk result (λ s. table_of s ≡ warnings_table warnings.now) }
 {
-    let mut sheet = titled(alloc, naming, "warnings", titles::WARNINGS, &WARNINGS)?;
+    let mut sheet = titled(alloc, naming, "warnings", WARNINGS_TITLE, &WARNINGS)?;
     for warning in warnings {
         push_warning(alloc, &mut sheet, naming, *warning)?;
     }

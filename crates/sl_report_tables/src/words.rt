@@ -1,101 +1,55 @@
 //! The words of methods, conditions, shapes and units.
 
-use crate::naming::ALL;
+ghost use Rattle.std.specs.Prelude.{◌≡◌};
+ghost use Rattle.sl_lex.specs.Keywords.{spelling};
+ghost use Rattle.sl_parse.specs.Words.{method_word};
+ghost use Rattle.sl_report_tables.specs.Words.{method_written};
+
+use crate::texts::{
+    ALL, CONDITION_WINNERS, MINORITY, SHAPE_LAND, SHAPE_LIST, SHAPE_ONE, SHAPE_PARTY, SHARE,
+    UNIT_SEATS, UNIT_VOTES,
+};
 use sl_explain_texts::{Language, Message};
-use sl_ratio::{Divisor, Method, NoMemory};
+use sl_lex::Keyword;
+use sl_parse::{keyword_method, method_keyword};
+use sl_ratio::{Method, NoMemory};
 use sl_stages::{Cond, Shape, Unit};
 use std::alloc::Global;
 
 /// A method, as a book writes it.
-pub fn method_word(method: Method) -> &'static str {
-    match method {
-        Method::Hamilton => "hamilton",
-        Method::Divisor(Divisor::Adams) => "adams",
-        Method::Divisor(Divisor::Dean) => "dean",
-        Method::Divisor(Divisor::Hill) => "hill",
-        Method::Divisor(Divisor::Webster) => "webster",
-        Method::Divisor(Divisor::Jefferson) => "jefferson",
+pub fn method_word(method: Method) -> &'static str
+    ensures { result.now ≡ spelling (method_word method) }
+{
+    method_keyword(method).spelling()
+}
+
+/// The method that a book writes so, if there is one.
+pub fn method_of(word: &str) -> Option<Method>
+    ensures { result ≡ method_written word.now }
+{
+    match Keyword::from_word(word.as_bytes()) {
+        Some(keyword) => keyword_method(keyword),
+        None => None,
     }
 }
-
-// All methods.
-const METHODS: [Method; 6] = [
-    Method::Divisor(Divisor::Webster),
-    Method::Divisor(Divisor::Jefferson),
-    Method::Divisor(Divisor::Adams),
-    Method::Divisor(Divisor::Dean),
-    Method::Divisor(Divisor::Hill),
-    Method::Hamilton,
-];
-
-/// The method that a book writes so.
-pub fn method_of(word: &str) -> Option<Method> {
-    METHODS
-        .into_iter()
-        .find(|method| method_word(*method) == word)
-}
-
-/// The words for a flag.
-pub(crate) const YES: Message = Message {
-    english: "yes",
-    german: "ja",
-};
-
-pub(crate) const NO: Message = Message {
-    english: "no",
-    german: "nein",
-};
 
 /// A shape, by what it has a number for.
 pub fn shape_word(shape: Shape) -> Message {
     match shape {
-        Shape::One => Message {
-            english: "one",
-            german: "eine Zahl",
-        },
-        Shape::Party => Message {
-            english: "party",
-            german: "Partei",
-        },
-        Shape::Land => Message {
-            english: "land",
-            german: "Land",
-        },
-        Shape::List => Message {
-            english: "list",
-            german: "Liste",
-        },
+        Shape::One => SHAPE_ONE,
+        Shape::Party => SHAPE_PARTY,
+        Shape::Land => SHAPE_LAND,
+        Shape::List => SHAPE_LIST,
     }
 }
 
 /// A unit.
 pub fn unit_word(unit: Unit) -> Message {
     match unit {
-        Unit::Seats => Message {
-            english: "seats",
-            german: "Sitze",
-        },
-        Unit::Votes => Message {
-            english: "votes",
-            german: "Stimmen",
-        },
+        Unit::Seats => UNIT_SEATS,
+        Unit::Votes => UNIT_VOTES,
     }
 }
-
-const SHARE: Message = Message {
-    english: "per",
-    german: "je",
-};
-
-const WINNERS: Message = Message {
-    english: "winners",
-    german: "Wahlkreise",
-};
-
-const MINORITY: Message = Message {
-    english: "minority",
-    german: "Minderheit",
-};
 
 // A condition in few words of a language.
 pub(crate) fn condition_text(
@@ -109,7 +63,7 @@ pub(crate) fn condition_text(
             Ok(format!(in alloc; "{share} {word} {per}")?)
         }
         Cond::Winners { least } => {
-            let word = WINNERS.in_language(language);
+            let word = CONDITION_WINNERS.in_language(language);
             Ok(format!(in alloc; "{least} {word}")?)
         }
         Cond::Minority => Ok(String::from_str(alloc, MINORITY.in_language(language))?),

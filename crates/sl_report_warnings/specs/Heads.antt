@@ -1,7 +1,7 @@
 -- How a warning is written (docs/returns.md, section 7).
 use Rattle.std.specs.Prelude.{List, [], codes, ◌++◌, ◌∷◌, ◌≡◌, ℕ}
 use Rattle.sl_explain_texts.specs.Heads.{Begins}
-use Rattle.sl_explain_texts.specs.declared.language.Language.TheVariants.{English, German}
+use Rattle.sl_explain_texts.specs.Languages.{warning_word}
 use Rattle.sl_explain_texts.specs.declared.language.Language.{Language}
 use Rattle.sl_report_warnings.specs.declared.warning.Warning.TheVariants.{EqualPeople, FewParties, LandWithoutWinners, LotOfNoEntry, LotUnused, NothingCounted, OtherHouse, SeveralParties, WinnersBesideLists, WinnersWithoutList}
 use Rattle.sl_report_warnings.specs.declared.warning.Warning.{Warning}
@@ -18,10 +18,6 @@ key_of (LotUnused lot) = codes "lot_unused"
 key_of (LotOfNoEntry lot) = codes "lot_of_no_entry"
 key_of (OtherHouse returns book) = codes "house"
 key_of (FewParties parties) = codes "few_parties"
-
-abbrev pub warning_word : Language → List ℕ
-warning_word English = codes "warning"
-warning_word German = codes "Warnung"
 
 -- the word for a warning, and the kind in brackets, as `warning[people]: `
 abbrev pub head_of : Language → Warning → List ℕ

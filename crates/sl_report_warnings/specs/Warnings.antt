@@ -66,7 +66,7 @@ uncounted_lists e party = count_by (λ land. counts_none (list_at e land party))
 abbrev pub of_counted : Election → ℕ → List Warning
 of_counted e party = warned (nat_le 1 (uncounted_lists e party)) (NothingCounted party (uncounted_lists e party))
 
--- the names, in capital or in small letters, under which the votes of several parties are told
+-- the names, in capital or in small letters, under which the votes of several parties are given
 abbrev pub names_of_many : List (List ℕ)
 names_of_many =
     codes "Sonstige" ∷ codes "Sonst" ∷ codes "Andere" ∷ codes "Uebrige" ∷ codes "Weitere" ∷ codes "Rest" ∷ codes "Others" ∷ codes "Other"

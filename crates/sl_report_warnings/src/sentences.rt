@@ -2,7 +2,7 @@
 
 ghost use Rattle.std.specs.Prelude.{◌≡◌, ◌++◌, IfOk};
 ghost use Rattle.sl_explain_texts.specs.Heads.{Begins};
-ghost use Rattle.sl_report_warnings.specs.Heads.{AreWritten, head_of, warning_word};
+ghost use Rattle.sl_report_warnings.specs.Heads.{AreWritten, head_of};
 
 use crate::warning::Warning;
 use sl_explain_texts::{Language, Message, Speaker};
@@ -208,22 +208,12 @@ pub fn sentence(
     }
 }
 
-// The word for a warning.
-fn warning_word(language: Language) -> &'static [u8]
-    ensures { result.now ≡ warning_word language }
-{
-    match language {
-        Language::English => b"warning",
-        Language::German => b"Warnung",
-    }
-}
-
 // How a warning begins: the word for a warning, and its kind.
 fn head_of(alloc: Global, language: Language, warning: Warning) -> Result<Vec<u8>, NoMemory>
     ensures { IfOk result (λ text. text.items ≡ head_of language warning) }
 {
     let mut text = Vec::new(alloc);
-    text.extend_from_slice(warning_word(language))?;
+    text.extend_from_slice(language.warning_word().as_bytes())?;
     text.extend_from_slice(b"[")?;
     text.extend_from_slice(warning.key().as_bytes())?;
     text.extend_from_slice(b"]: ")?;

@@ -117,7 +117,7 @@ module _ (lists : List Record) (lands parties : List (List ℕ)) (names : All (N
 -- ---- a list more
 
 module _ (lists : List Record) (lands parties : List (List ℕ)) where
-  -- what is told of the list at two places
+  -- what is recorded of the list at two places
   pub list_at_places : (i j : ℕ) → i < length lands → j < length parties
       → get_or (get_or (rows_from lists lands parties) i []) j None ≡ list_from lists (get_or lands i []) (get_or parties j [])
   list_at_places i j in_lands in_parties =

@@ -51,6 +51,6 @@ fault_at row f = record { row = row_told row f.kind; column = f.column; kind = f
 abbrev pub no_memory : ReturnsFault
 no_memory = record { row = 0; column = None; kind = NoMemory }
 
--- the row of the record after so many others. A row has 32 bits: one that is past them is told as the greatest
+-- the row of the record after so many others. A row has 32 bits: one that is past them is reported as the greatest
 abbrev pub row_behind : ℕ → ℕ
 row_behind records = min (records + 1) (2 ^ 32 - 1)

@@ -52,7 +52,7 @@ unless (Some f) e = Err f
 abbrev pub returns_of : List Record → Result Election ReturnsFault
 returns_of rs = unless (option_or (refusal_of rs) (lack_of rs)) (election_of_records (behind_header rs))
 
--- what refused returns have beside their fault: the fields of the record that is refused, which has the row of the fault; none of what the records lack at their end
+-- what refused returns have in addition to their fault: the fields of the record that is refused, which has the row of the fault; none of what the records lack at their end
 abbrev pub IsRefusedRecord : List Record → ReturnsFault → Record → Type 0
 IsRefusedRecord rs f fields = (fields ≡ []) ⊎ ((n : ℕ) × (slice_get rs n ≡ Some fields) × (f.kind ≢ fault.NoMemory → f.row ≡ row_behind n))
 

@@ -135,7 +135,7 @@ land_tests e r = blanks kind.Land r ++ (cell_tests e kind.Land r ++ one_test (na
 abbrev pub party_tests : Election → Record → Tests
 party_tests e r = blanks kind.Party r ++ (cell_tests e kind.Party r ++ one_test (nat_lt (parties_of e) MAX_PARTIES) (of_record fault.TooMany))
 
--- the names left on a list can be told only in the second version
+-- the names left on a list can be given only in the second version
 abbrev pub may_tell_slate : Version → Bool
 may_tell_slate version.First = false
 may_tell_slate version.Second = true

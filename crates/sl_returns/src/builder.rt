@@ -26,7 +26,7 @@ pub struct ReturnsBuilder {
     index: Index,
     // where the next list mostly stands
     near: Near,
-    // the version that the header told
+    // the version that the header gave
     version: Option<Version>,
     // the row of the last record
     row: u32,
@@ -188,7 +188,7 @@ impl ReturnsBuilder {
     }
 }
 
-// Takes a record, which must be the header where none has told its version, and answers the version.
+// Takes a record, which must be the header where none has given its version, and answers the version.
 fn take(
     returns: &mut Returns,
     index: &mut Index,

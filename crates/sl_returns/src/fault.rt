@@ -23,7 +23,7 @@ pub enum FaultKind {
     Range,
     /// A name is not declared.
     Unknown,
-    /// It is told a second time.
+    /// it is given a second time.
     Twice,
     /// More votes are counted than are valid.
     Counted,

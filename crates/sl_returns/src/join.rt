@@ -88,7 +88,7 @@ fn join_party(
     kept(add_name(&mut index.parties, name))
 }
 
-// Keeps a list, with the names left on it, if they are told.
+// Keeps a list, with the names left on it, if they are given.
 fn keep_list(
     returns: &mut Returns,
     land: usize,
@@ -109,7 +109,7 @@ fn keep_list(
     Ok(())
 }
 
-// Whether the cell of the names left on a list is empty where they can't be told.
+// Whether the cell of the names left on a list is empty where they can't be given.
 fn fills_list(version: Version, fields: &ByteRecord) -> bool
     ensures { result ≡ fills_list version (fields_of fields.now) }
 {

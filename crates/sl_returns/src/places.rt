@@ -1,4 +1,4 @@
-//! Where the cells of a text stand: the one splitter beside the reader, by the same machine.
+//! Where the cells of a text stand: the one splitter besides the reader, by the same machine.
 
 ghost use Rattle.std.specs.Prelude.{◌≡◌, ◌<◌, ◌≤◌, ◌^◌, ◌-◌, ℕ, List, drop, get_or, length};
 ghost use Rattle.csv.specs.Machine.{ends_at_end, step};
@@ -14,7 +14,7 @@ pub struct Place {
     pub is_open: bool,
 }
 
-// The states of the machine with which the `csv` crate reads, as far as its settings here come to them.
+// The states of the machine with which the `csv` crate reads, as far as its settings here reach them.
 #[derive(Clone, Copy, PartialEq, Eq)]
 enum State {
     StartRecord,

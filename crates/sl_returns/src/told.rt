@@ -1,4 +1,4 @@
-//! The lots that the records have told, where a lot told before is found by its key.
+//! The lots that the records have given, where a lot given before is found by its key.
 
 ghost use Rattle.std.specs.Prelude.{◌≡◌, ◌++◌, ◌∷◌, [], false, OnOk};
 ghost use Rattle.sl_returns.specs.Tests.{has_lot, same_lot};
@@ -36,7 +36,7 @@ impl Equivalent<LotKey> for ToldLot<'_> {
     }
 }
 
-// The lots that the records have told, in their order.
+// The lots that the records have given, in their order.
 #[derive(Drop)]
 pub(crate) struct ToldLots {
     keys: IndexSet<LotKey>,

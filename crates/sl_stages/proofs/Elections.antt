@@ -120,7 +120,7 @@ slate_told e land party names votes told =
     ap (λ cell. with_list (with_list e land party votes) land party (record { valid = valid_in cell; counted = counted_in cell; slate = Some names })) told
     ∙ ap (λ (cells : List (List (Option ListVotes))). record e { cells = cells }) (set_again e.cells land (set row party (Some votes)) [] (λ row. set row party again) ∙ ap (set e.cells land) (set-set row party (Some votes) again))
 
--- the votes of a list keep within the limits as its names are told
+-- the votes of a list keep within the limits as its names are given
 with_names : (cell : Option ListVotes) (names : ℕ) → IsCell cell → names ≤ MAX_SLATE → IsListVotes (record { valid = valid_in cell; counted = counted_in cell; slate = Some names })
 with_names None names is few = record { counted = omega arith; valid = omega arith; slate = λ n e. subst (λ m. m ≤ MAX_SLATE) (same_Some names n e) few }
 with_names (Some v) names is few =

@@ -6,7 +6,7 @@ ghost use Rattle.sl_stages.specs.returns.Votes.{IsListVotes};
 use crate::returns::ListVotes;
 use std::marker::Model;
 
-// What stands for no list, and for names left that are not told: no list has so many votes or names.
+// What stands for no list, and for names left that are not given: no list has so many votes or names.
 const NONE: u32 = u32::MAX;
 
 // The votes of a list, if there is one. A row has a cell for each party that there may be, so a cell takes 12 bytes where

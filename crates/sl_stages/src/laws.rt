@@ -40,7 +40,7 @@ pub fn coverings()
     ensures full { FullCoverings }
 {}
 
-/// A growth comes to exactly one house, or to exactly one fault (docs/methods.md, section 5).
+/// A growth yields exactly one house, or exactly one fault (docs/methods.md, section 5).
 pub fn growths()
     ensures { Growths }
 {}

@@ -12,7 +12,7 @@ use crate::label::{Label, number_among};
 use std::alloc::Global;
 use std::marker::Model;
 
-/// The votes of a list, and how many names are left on it, if that is told.
+/// The votes of a list, and how many names are left on it, if that is given.
 #[derive(Clone, Copy)]
 pub struct ListVotes {
     pub valid: u32,
@@ -155,7 +155,7 @@ impl Returns {
         self.list(land, party).map_or(0, |votes| votes.counted)
     }
 
-    /// The number of names left on a list, if it is told.
+    /// The number of names left on a list, if it is given.
     pub fn slate(&self, land: usize, party: usize) -> Option<u32>
         requires land { land < lands_of self.now }
         requires party { party < parties_of self.now }

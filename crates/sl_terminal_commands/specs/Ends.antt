@@ -34,7 +34,7 @@ IsEarly (Same path) = ⊤
 abbrev pub IsSilent : Bool → Status → Type 0
 IsSilent is_quiet ends = (ends ≡ status.Done) ⊎ (is_quiet ≡ true)
 
--- the exit status of a command that did not come to its end
+-- the exit status of a command that was not completed
 abbrev pub failure_number : {E : Type 0} → Failure E → ℕ
 failure_number (Kept path) = 1
 failure_number (Same path) = 1

@@ -1,4 +1,4 @@
-//! Why a command did not come to its end.
+//! Why a command was not completed.
 
 ghost use Rattle.std.specs.Prelude.{◌≡◌};
 ghost use Rattle.sl_count_inputs.specs.declared.status.DeskError.TheVariants as fault;
@@ -9,7 +9,7 @@ use sl_ratio::NoMemory;
 use sl_terminal_count::Unopened;
 use std::alloc::AllocFailed;
 
-/// Why a command did not come to its end.
+/// Why a command was not completed.
 #[derive(Drop)]
 pub enum Failure<'a, E> {
     /// A file could not be opened.

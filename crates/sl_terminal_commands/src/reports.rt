@@ -79,7 +79,7 @@ fn first_refusal<'a>(
 }
 
 impl<O: Outside, W: Sink, E: Sink> Terminal<O, W, E> {
-    // The bytes of a file beside the inputs of a count, if one is given.
+    // The bytes of a file in addition to the inputs of a count, if one is given.
     fn read_beside<'a>(
         &self,
         path: Option<&'a str>,
@@ -149,7 +149,7 @@ impl<O: Outside, W: Sink, E: Sink> Terminal<O, W, E> {
         Ok((read, answer))
     }
 
-    // Writes the text that reports of a rulebook and returns, and tells why they come to no table, if they don't; or writes the refusal of the names.
+    // Writes the text that reports of a rulebook and returns, and tells why they yield no table, if they don't; or writes the refusal of the names.
     fn finish_report<'a>(
         &mut self,
         read: &Read<'_>,

@@ -351,7 +351,7 @@ impl<O: Outside, W: Sink, E: Sink> Terminal<O, W, E> {
         self.refuse_returns(returns, refused, manner)
     }
 
-    // Puts good rulebooks side by side, and behind them themselves with each of these methods; or refuses one that fails a test so.
+    // Puts good rulebooks side by side, and after them the same with each of these methods; or refuses one that fails a test so.
     fn compare_varied<'a>(
         &mut self,
         books: Vec<NamedBook<'_>>,

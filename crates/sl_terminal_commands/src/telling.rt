@@ -163,7 +163,7 @@ impl<O: Outside, W: Sink, E: Sink> Terminal<O, W, E> {
         }
     }
 
-    // Tells why a rulebook and returns that were read come to no table.
+    // Tells why a rulebook and returns that were read yield no table.
     fn tell_fault(&mut self, status: Status, book: &str, returns: &str, read: &Read<'_>)
         ensures only { OnlyTells self.old self.new }
         ensures silent { IsSilent self.old.is_quiet status → self.new.err ≡ self.old.err }
@@ -311,7 +311,7 @@ impl<O: Outside, W: Sink, E: Sink> Terminal<O, W, E> {
         explain_opening(alloc, self.language, command, input, path, reason.as_str())
     }
 
-    // Says as JSON why a command that reports did not come to its end, and answers its exit status.
+    // Says as JSON why a command that reports was not completed, and answers its exit status.
     fn tell_as_json(&mut self, command: &'static str, failure: &Failure<'_, O::Reason>) -> u8
         ensures number { result ≡ failure_number failure.now }
         ensures only { OnlyTells self.old self.new }
@@ -332,7 +332,7 @@ impl<O: Outside, W: Sink, E: Sink> Terminal<O, W, E> {
         5
     }
 
-    // Says in lines why a command did not come to its end, and answers its exit status.
+    // Says in lines why a command was not completed, and answers its exit status.
     fn tell_plainly(&mut self, command: &str, failure: &Failure<'_, O::Reason>) -> u8
         ensures number { result ≡ failure_number failure.now }
         ensures only { OnlyTells self.old self.new }
@@ -347,7 +347,7 @@ impl<O: Outside, W: Sink, E: Sink> Terminal<O, W, E> {
         5
     }
 
-    /// Says why a command did not come to its end, as JSON where its report is JSON, and answers its exit status.
+    /// Says why a command was not completed, as JSON where its report is JSON, and answers its exit status.
     pub(crate) fn tell_failure(
         &mut self,
         command: &'static str,

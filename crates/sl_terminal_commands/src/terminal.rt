@@ -17,13 +17,10 @@ const VARIABLES: [&str; 3] = ["LC_ALL", "LC_MESSAGES", "LANG"];
 // The language of the environment.
 fn language_of<O: Outside>(alloc: Global, outside: &O) -> Language {
     for name in VARIABLES {
-        if let Some(value) = outside.variable(alloc, name) {
-            if value.starts_with("de") {
-                return Language::German;
-            }
-            if !value.is_empty() {
-                return Language::English;
-            }
+        if let Some(value) = outside.variable(alloc, name)
+            && !value.is_empty()
+        {
+            return Language::of_locale(value.as_str()).unwrap_or(Language::English);
         }
     }
     Language::English

@@ -1,4 +1,4 @@
-//! Rulebooks with other methods than their own, as `compare --method` puts them beside themselves.
+//! Rulebooks with other methods than their own, as `compare --method` puts them next to the originals.
 
 ghost use Rattle.std.specs.Prelude.{◌≡◌, ◌≤◌, All, IfOk, length};
 ghost use Rattle.sl_explain_calls.specs.Codes.{subject_of};
@@ -110,7 +110,7 @@ pub(crate) fn all_varied<'a>(
     Ok(all)
 }
 
-/// Rulebooks, and others behind them.
+/// Rulebooks, and others after them.
 pub(crate) fn behind<'a>(
     mut books: Vec<NamedBook<'a>>,
     mut others: Vec<NamedBook<'a>>,

@@ -17,7 +17,7 @@ pub enum Exit {
     NoCount,
     /// A text was written.
     Written(Status),
-    /// It did not come to its end.
+    /// It was not completed.
     Failed(DeskError),
 }
 

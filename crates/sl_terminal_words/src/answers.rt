@@ -3,17 +3,13 @@
 use crate::help::{Form, PROGRAM, command_of, named};
 use crate::hints::hint_of;
 use crate::page::{ending_of, page_of, usage_of};
-use crate::refusals::{TIP, refusal, sentence_in, tips_in};
+use crate::refusals::{refusal, sentence_in, tips_in};
+use crate::texts::{NO_MEMORY, TIP};
 use clap::error::ErrorKind;
 use clap::{Command, Error};
 use sl_base_no_memory::NoMemory;
 use sl_explain_texts::{Language, Message, append};
 use std::alloc::{AllocError, Global};
-
-const NO_MEMORY: Message = Message {
-    english: "error: out of memory\n",
-    german: "Fehler: der Speicher reicht nicht\n",
-};
 
 /// What is said of words that ask for no command.
 #[derive(Drop)]
@@ -59,9 +55,10 @@ fn help(
     page: String,
 ) -> Result<Answer, NoMemory> {
     let form = helped(words);
-    let mut text = match language {
-        Language::English => page,
-        Language::German => page_of(alloc, language, &form.unwrap_or(PROGRAM))?,
+    let mut text = if language == Language::English {
+        page
+    } else {
+        page_of(alloc, language, &form.unwrap_or(PROGRAM))?
     };
     if let Some(form) = form {
         text.push_str(ending_of(alloc, language, &form)?.as_str())?;
@@ -75,9 +72,10 @@ fn usage_of_program(
     language: Language,
     program: &mut Command<'_>,
 ) -> Result<String, AllocError> {
-    match language {
-        Language::English => program.render_usage(),
-        Language::German => usage_of(alloc, language, &PROGRAM),
+    if language == Language::English {
+        program.render_usage()
+    } else {
+        usage_of(alloc, language, &PROGRAM)
     }
 }
 
@@ -137,9 +135,10 @@ fn tips(
             return Ok(Some(tips));
         }
     }
-    match language {
-        Language::English => Ok(None),
-        Language::German => Ok(Some(tips_in(alloc, language, text)?)),
+    if language == Language::English {
+        Ok(None)
+    } else {
+        Ok(Some(tips_in(alloc, language, text)?))
     }
 }
 

@@ -4,28 +4,12 @@ use crate::answers::{Answer, answer_to, refuse};
 use crate::help::{COMMANDS, Form, PROGRAM, command_of};
 use crate::options::{Options, language_in, options_of};
 use crate::reports::{Report, ReportForm, form_of, report_of};
+use crate::texts::{NO_COMMAND, SAME_FILE, UNKNOWN_CODE};
 use crate::words::{Given, Word};
 use clap::{Arg, ArgAction, ArgMatches, Command};
 use sl_base_no_memory::NoMemory;
 use sl_explain_texts::{FaultCode, Language, Message, VERSION};
 use std::alloc::{AllocError, Global};
-
-// Why `code` refuses one word for its rulebook and its code file.
-const SAME_FILE: Message = Message {
-    english: "BOOK and OUT are one file, which would be lost: write the code to another",
-    german: "BOOK und OUT sind eine Datei, die verloren ginge: den Code in eine andere schreiben",
-};
-
-// Why `explain` refuses a word.
-const UNKNOWN_CODE: Message = Message {
-    english: "there is no such code: a code is a letter and two digits, such as B15; docs/faults.md lists them",
-    german: "es gibt keinen solchen Code: ein Code ist ein Buchstabe und zwei Ziffern, wie B15; docs/faults.md nennt alle",
-};
-
-const NO_COMMAND: Message = Message {
-    english: "no command is given",
-    german: "es ist kein Befehl angegeben",
-};
 
 /// What is shown of an election that is counted.
 #[derive(Clone, Copy)]

@@ -1,6 +1,6 @@
 //! The command line of the program: its words, what they ask for, and the help.
 //!
-//! Stands on `sl_explain_texts`; used by the room terminal. Only tested: which request the words ask for, and the help.
+//! Stands on `sl_explain_texts` and `sl_laws`; used by the room terminal. Only tested: which request the words ask for, and the help.
 //!
 //! Where an error is `NoMemory` alone, memory ran out, and nothing else is wrong.
 #![tactic(auto)]
@@ -15,6 +15,7 @@ mod refusals;
 mod reports;
 mod statuses;
 mod system;
+mod texts;
 mod words;
 
 pub use answers::Answer;

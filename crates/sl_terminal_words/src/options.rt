@@ -12,20 +12,11 @@ pub struct Options {
     pub language: Option<Language>,
 }
 
-// The language that a value of `--lang` asks for, if it is one.
-fn language_of(value: &str) -> Option<Language> {
-    match value {
-        "de" => Some(Language::German),
-        "en" => Some(Language::English),
-        _ => None,
-    }
-}
-
 /// The options that are given to a command.
 pub(crate) fn options_of(given: &ArgMatches<'_>) -> Options {
     Options {
         is_quiet: given.get_flag("quiet"),
-        language: language_of(given.get_str("lang").unwrap_or("")),
+        language: Language::of_word(given.get_str("lang").unwrap_or("")),
     }
 }
 
@@ -39,7 +30,7 @@ pub(crate) fn language_in(words: &[String]) -> Option<Language> {
             None if before == "--lang" => word,
             None => "",
         };
-        let language = language_of(value);
+        let language = Language::of_word(value);
         if language.is_some() {
             return language;
         }

@@ -1,65 +1,14 @@
 //! The help of a command as a text, for a language that `clap` does not write; and the end of a help, which `clap` does not have.
 
-use crate::help::{COMMANDS, Form};
+use crate::help::{COMMANDS, Form, LAW};
+use crate::texts::{
+    ALL_STATUSES, COMMAND, EXAMPLE, HELP_COMMAND, NO_ELECTION, SOME_OPTIONS, STATUSES,
+    TITLE_OF_COMMANDS, TITLE_OF_OPTIONS, TITLE_OF_STATUTES, TITLE_OF_WORDS, USAGE, VALUES,
+};
 use crate::words::{Given, HELP, VERSION, Word};
-use sl_explain_texts::{Language, Message};
+use sl_explain_texts::Language;
+use sl_laws::{ELECTIONS, STATUTES, Statute};
 use std::alloc::{AllocError, Global};
-
-/// The title of the line that says how a command is called.
-pub(crate) const USAGE: Message = Message {
-    english: "Usage: ",
-    german: "Aufruf: ",
-};
-
-const COMMAND: Message = Message {
-    english: " <COMMAND>",
-    german: " <BEFEHL>",
-};
-
-const SOME_OPTIONS: Message = Message {
-    english: " [OPTIONS]",
-    german: " [OPTIONEN]",
-};
-
-const TITLE_OF_COMMANDS: Message = Message {
-    english: "\n\nCommands:",
-    german: "\n\nBefehle:",
-};
-
-const TITLE_OF_WORDS: Message = Message {
-    english: "\n\nArguments:",
-    german: "\n\nArgumente:",
-};
-
-const TITLE_OF_OPTIONS: Message = Message {
-    english: "\n\nOptions:",
-    german: "\n\nOptionen:",
-};
-
-const HELP_COMMAND: Message = Message {
-    english: "Print this message or the help of the given subcommand(s)",
-    german: "Zeigt diese Hilfe oder die eines Befehls",
-};
-
-const VALUES: Message = Message {
-    english: " [possible values: ",
-    german: " [mögliche Werte: ",
-};
-
-const EXAMPLE: Message = Message {
-    english: "\n\nExample:\n  seatlaw ",
-    german: "\n\nBeispiel:\n  seatlaw ",
-};
-
-const STATUSES: Message = Message {
-    english: "\n\nExit status:",
-    german: "\n\nExit-Status:",
-};
-
-const ALL_STATUSES: Message = Message {
-    english: "\n\nExit status, of which the help of a command has its own:",
-    german: "\n\nExit-Status; die Hilfe eines Befehls nennt die seinen:",
-};
 
 // A row of a list: how something is written, and what it is.
 #[derive(Drop)]
@@ -165,7 +114,7 @@ fn widest(rows: &[Row]) -> usize {
     most
 }
 
-// A row whose second column begins behind so many characters.
+// A row whose second column begins after so many characters.
 fn push_row(text: &mut String, row: &Row, most: usize) -> Result<(), AllocError> {
     let shown = row.shown.as_str();
     text.push_str("\n  ")?;
@@ -188,6 +137,38 @@ fn push_list(text: &mut String, title: &str, rows: &[Row]) -> Result<(), AllocEr
         push_row(text, row, most)?;
     }
     Ok(())
+}
+
+// The years of the elections that were held under a statute.
+fn years_of(alloc: Global, statute: &Statute) -> Result<String, AllocError> {
+    let mut years = String::new(alloc);
+    for (year, under) in &ELECTIONS {
+        if *under == Some(statute.name) {
+            if !years.is_empty() {
+                years.push_str(", ")?;
+            }
+            years.push_str(year)?;
+        }
+    }
+    Ok(years)
+}
+
+// The rows of the statutes, each with its elections.
+fn statute_rows(alloc: Global, language: Language) -> Result<Vec<Row>, AllocError> {
+    let mut rows = Vec::new(alloc);
+    for statute in &STATUTES {
+        let years = years_of(alloc, statute)?;
+        let said = if years.is_empty() {
+            String::from_str(alloc, NO_ELECTION.in_language(language))?
+        } else {
+            years
+        };
+        rows.push(Row {
+            shown: String::from_str(alloc, statute.name)?,
+            said,
+        })?;
+    }
+    Ok(rows)
 }
 
 /// How a command is called, with a title.
@@ -225,6 +206,10 @@ pub(crate) fn ending_of(
     };
     let mut text = String::from_str(alloc, "\n")?;
     text.push_str(form.more.in_language(language))?;
+    if form.name == LAW.name {
+        let title = TITLE_OF_STATUTES.in_language(language);
+        push_list(&mut text, title, statute_rows(alloc, language)?.as_slice())?;
+    }
     text.push_str(EXAMPLE.in_language(language))?;
     text.push_str(form.example)?;
     text.push_str(title.in_language(language))?;

@@ -3,97 +3,40 @@
 //! An error of `clap` gives its kind and its English text, and no values. So the English text of a message is the pattern by which its values are
 //! read, and its German text takes them in the same order.
 
+use crate::texts::{
+    INVALID_VALUE, MISSING_ARGUMENTS, MISSING_VALUE, MISSING_VALUE_OF_THESE, NO_SUBCOMMAND,
+    OTHER_REFUSAL, PASSED_AS_VALUE, REFUSAL, REPEATED_ARGUMENT, SIMILAR_ARGUMENT,
+    SIMILAR_SUBCOMMAND, SIMILAR_SUBCOMMANDS, SIMILAR_VALUE, TIP, UNEXPECTED_ARGUMENT,
+    UNEXPECTED_VALUE, UNKNOWN_SUBCOMMAND, UNLIKE_ARGUMENT, UNLIKE_ARGUMENTS,
+};
 use sl_base_no_memory::NoMemory;
 use sl_explain_texts::{Language, Message, append};
 use std::alloc::{AllocError, Global};
 
 // The sentences.
 const SENTENCES: [Message; 12] = [
-    Message {
-        english: "'$' requires a subcommand but one was not provided\n  [subcommands: $]",
-        german: "auf '$' muss ein Befehl folgen\n  [Befehle: $]",
-    },
-    Message {
-        english: "unrecognized subcommand '$'",
-        german: "es gibt keinen Befehl '$'",
-    },
-    Message {
-        english: "the following required arguments were not provided:$",
-        german: "es fehlen diese Argumente:$",
-    },
-    Message {
-        english: "unexpected argument '$' found",
-        german: "unerwartetes Argument '$'",
-    },
-    Message {
-        english: "unexpected value '$' for '$' found; no more were expected",
-        german: "unerwarteter Wert '$': '$' nimmt keinen",
-    },
-    Message {
-        english: "a value is required for '$' but none was supplied\n  [possible values: $]",
-        german: "'$' braucht einen Wert\n  [mögliche Werte: $]",
-    },
-    Message {
-        english: "a value is required for '$' but none was supplied",
-        german: "'$' braucht einen Wert",
-    },
-    Message {
-        english: "invalid value '$' for '$'\n  [possible values: $]",
-        german: "ungültiger Wert '$' für '$'\n  [mögliche Werte: $]",
-    },
-    Message {
-        english: "the argument '$' cannot be used multiple times",
-        german: "das Argument '$' darf nur einmal stehen",
-    },
-    Message {
-        english: "the argument '$' cannot be used with '$'",
-        german: "das Argument '$' darf nicht neben '$' stehen",
-    },
-    Message {
-        english: "the argument '$' cannot be used with:$",
-        german: "das Argument '$' darf nicht neben diesen stehen:$",
-    },
-    Message {
-        english: "$",
-        german: "die Befehlszeile ist so nicht zu verstehen",
-    },
+    NO_SUBCOMMAND,
+    UNKNOWN_SUBCOMMAND,
+    MISSING_ARGUMENTS,
+    UNEXPECTED_ARGUMENT,
+    UNEXPECTED_VALUE,
+    MISSING_VALUE_OF_THESE,
+    MISSING_VALUE,
+    INVALID_VALUE,
+    REPEATED_ARGUMENT,
+    UNLIKE_ARGUMENT,
+    UNLIKE_ARGUMENTS,
+    OTHER_REFUSAL,
 ];
 
 // What it would try.
 const TIPS: [Message; 5] = [
-    Message {
-        english: "a similar subcommand exists: '$'",
-        german: "es gibt einen ähnlichen Befehl: '$'",
-    },
-    Message {
-        english: "some similar subcommands exist: $",
-        german: "es gibt ähnliche Befehle: $",
-    },
-    Message {
-        english: "a similar argument exists: '$'",
-        german: "es gibt ein ähnliches Argument: '$'",
-    },
-    Message {
-        english: "a similar value exists: '$'",
-        german: "es gibt einen ähnlichen Wert: '$'",
-    },
-    Message {
-        english: "to pass '$' as a value, use '$'",
-        german: "um '$' als Wert zu übergeben, '$' schreiben",
-    },
+    SIMILAR_SUBCOMMAND,
+    SIMILAR_SUBCOMMANDS,
+    SIMILAR_ARGUMENT,
+    SIMILAR_VALUE,
+    PASSED_AS_VALUE,
 ];
-
-/// What stands before a tip.
-pub(crate) const TIP: Message = Message {
-    english: "\n  tip: $",
-    german: "\n  Tipp: $",
-};
-
-// A refusal, by its sentence, its tips and its usage.
-const REFUSAL: Message = Message {
-    english: "error: $$\n\n$\n\nFor more information, try '--help'.\n",
-    german: "Fehler: $$\n\n$\n\nMehr dazu sagt '--help'.\n",
-};
 
 /// A refusal by its sentence, by its tips with an empty line before them, and by its usage.
 pub(crate) fn refusal(

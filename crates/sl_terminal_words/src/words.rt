@@ -1,6 +1,12 @@
 //! The words and options of the commands: how each is given, and what it stands for, in both languages. Their names are the same in both.
 
-use sl_explain_texts::Message;
+use crate::texts::{
+    BEFORE_HELP, BOOK_HELP, BOOKS_HELP, CODE_FILE_HELP, CSV_HELP, FAULT_CODE_HELP, FILE_VALUE,
+    FORCE_HELP, HELP_HELP, HTML_HELP, JSON_HELP, LANGUAGE_HELP, LANGUAGE_VALUE, MARKDOWN_HELP,
+    METHOD_HELP, METHOD_VALUE, NAMES_HELP, OUT_HELP, QUIET_HELP, RETURNS_HELP, SHORT_HELP,
+    STAGE_NAME_HELP, STATUTE_HELP, VERSION_HELP,
+};
+use sl_explain_texts::{LANGUAGE_WORDS, Message};
 
 /// How a word is given to a command.
 #[derive(Clone, Copy)]
@@ -11,17 +17,17 @@ pub enum Given {
     Optional,
     /// In its place, any number of times.
     Repeated,
-    /// By its name, and not beside these.
+    /// By its name, and not together with these.
     Flag(&'static [&'static str]),
     /// By its name or by a letter.
     Letter(char),
     /// By its name, with a value that the help calls so.
     Value(Message),
-    /// The same, and beside the flag of this name alone.
+    /// The same, and only together with the flag of this name.
     Beside(Message, &'static str),
     /// By its name, with one of these values.
     Choice(Message, &'static [&'static str]),
-    /// The same, any number of times, and beside the word of this name alone.
+    /// The same, any number of times, and only together with the word of this name.
     Choices(Message, &'static [&'static str], &'static str),
 }
 
@@ -36,10 +42,7 @@ pub struct Word {
 pub(crate) const BOOK: Word = Word {
     name: "BOOK",
     given: Given::Needed,
-    help: Message {
-        english: "The rulebook: a path, or @NAME for one of the library",
-        german: "Das Regelwerk: ein Pfad, oder @NAME für eines der Bibliothek",
-    },
+    help: BOOK_HELP,
 };
 
 pub(crate) const OPTIONAL_BOOK: Word = Word {
@@ -50,201 +53,127 @@ pub(crate) const OPTIONAL_BOOK: Word = Word {
 pub(crate) const BOOKS: Word = Word {
     name: "BOOK",
     given: Given::Repeated,
-    help: Message {
-        english: "Rulebooks: paths, or @NAME for one of the library",
-        german: "Regelwerke: Pfade, oder @NAME für eines der Bibliothek",
-    },
+    help: BOOKS_HELP,
 };
 
 pub(crate) const RETURNS: Word = Word {
     name: "RETURNS",
     given: Given::Needed,
-    help: Message {
-        english: "The returns, the numbers of an election: the path of a CSV file",
-        german: "Die Wahlergebnisse, die Zahlen einer Wahl: der Pfad einer CSV-Datei",
-    },
+    help: RETURNS_HELP,
 };
 
 pub(crate) const STAGE_NAME: Word = Word {
     name: "NAME",
     given: Given::Needed,
-    help: Message {
-        english: "The name of a stage of the rulebook: the word after `stage`",
-        german: "Der Name einer Stufe des Regelwerks: das Wort nach `stage`",
-    },
+    help: STAGE_NAME_HELP,
 };
 
 pub(crate) const OUT: Word = Word {
     name: "OUT",
     given: Given::Needed,
-    help: Message {
-        english: "The code file to write: a path; a file there must be empty or a code file",
-        german: "Die Codedatei, die entsteht: ein Pfad; eine Datei dort muss leer oder eine Codedatei sein",
-    },
+    help: OUT_HELP,
 };
 
 pub(crate) const CODE_FILE: Word = Word {
     name: "CODE",
     given: Given::Needed,
-    help: Message {
-        english: "The code file, as `code` writes it: a path",
-        german: "Die Codedatei, wie `code` sie schreibt: ein Pfad",
-    },
+    help: CODE_FILE_HELP,
 };
 
 pub(crate) const STATUTE: Word = Word {
     name: "NAME",
     given: Given::Needed,
-    help: Message {
-        english: "1956, 1985, 2008, 2013, 2023 or 2023-order",
-        german: "1956, 1985, 2008, 2013, 2023 oder 2023-order",
-    },
+    help: STATUTE_HELP,
 };
 
 pub(crate) const FAULT_CODE: Word = Word {
     name: "CODE",
     given: Given::Needed,
-    help: Message {
-        english: "The code of a fault, as an error has it in brackets: B15",
-        german: "Der Code eines Fehlers, wie ihn eine Meldung in Klammern nennt: B15",
-    },
+    help: FAULT_CODE_HELP,
 };
 
 const SHORT: Word = Word {
     name: "short",
     given: Given::Flag(&[]),
-    help: Message {
-        english: "A page for the press: seats, votes, the last seat and the next claim",
-        german: "Eine Seite für die Presse: Sitze, Stimmen, letzter Sitz, nächster Anspruch",
-    },
+    help: SHORT_HELP,
 };
 
 const MARKDOWN: Word = Word {
     name: "markdown",
     given: Given::Flag(&[]),
-    help: Message {
-        english: "Write Markdown",
-        german: "Schreibt Markdown",
-    },
+    help: MARKDOWN_HELP,
 };
 
 const HTML: Word = Word {
     name: "html",
     given: Given::Flag(&["markdown"]),
-    help: Message {
-        english: "Write a page of HTML",
-        german: "Schreibt eine HTML-Seite",
-    },
+    help: HTML_HELP,
 };
 
 const JSON: Word = Word {
     name: "json",
     given: Given::Flag(&["markdown", "html"]),
-    help: Message {
-        english: "Write JSON (docs/report.md)",
-        german: "Schreibt JSON (docs/report.md)",
-    },
+    help: JSON_HELP,
 };
 
 const CSV: Word = Word {
     name: "csv",
     given: Given::Flag(&["markdown", "html", "json"]),
-    help: Message {
-        english: "Write comma-separated values",
-        german: "Schreibt kommagetrennte Werte",
-    },
-};
-
-const FILE: Message = Message {
-    english: "FILE",
-    german: "DATEI",
+    help: CSV_HELP,
 };
 
 const BEFORE: Word = Word {
     name: "before",
-    given: Given::Beside(FILE, "short"),
-    help: Message {
-        english: "With --short: an earlier seat table, as `count` writes it, for the changes",
-        german: "Mit --short: eine frühere Sitztabelle, wie `count` sie schreibt, für die Änderungen",
-    },
+    given: Given::Beside(FILE_VALUE, "short"),
+    help: BEFORE_HELP,
 };
 
 const METHOD: Word = Word {
     name: "method",
     given: Given::Choices(
-        Message {
-            english: "METHOD",
-            german: "VERFAHREN",
-        },
+        METHOD_VALUE,
         &["webster", "jefferson", "adams", "dean", "hill", "hamilton"],
         "BOOK",
     ),
-    help: Message {
-        english: "Each rulebook also with this method in all its splits; may be repeated",
-        german: "Jedes Regelwerk auch mit diesem Verfahren in allen Verteilungen; darf mehrfach stehen",
-    },
+    help: METHOD_HELP,
 };
 
 const NAMES: Word = Word {
     name: "names",
-    given: Given::Value(FILE),
-    help: Message {
-        english: "Full names: the path of a CSV file of short and full ones",
-        german: "Volle Namen: der Pfad einer CSV-Datei mit kurzen und vollen",
-    },
+    given: Given::Value(FILE_VALUE),
+    help: NAMES_HELP,
 };
 
 const QUIET: Word = Word {
     name: "quiet",
     given: Given::Letter('q'),
-    help: Message {
-        english: "Omits explanations on standard error",
-        german: "Lässt Erklärungen auf der Fehlerausgabe weg",
-    },
+    help: QUIET_HELP,
 };
 
 const LANGUAGE: Word = Word {
     name: "lang",
-    given: Given::Choice(
-        Message {
-            english: "LANGUAGE",
-            german: "SPRACHE",
-        },
-        &["de", "en"],
-    ),
-    help: Message {
-        english: "The language of explanations, else that of the environment",
-        german: "Die Sprache der Erklärungen, sonst die der Umgebung",
-    },
+    given: Given::Choice(LANGUAGE_VALUE, &LANGUAGE_WORDS),
+    help: LANGUAGE_HELP,
 };
 
 const FORCE: Word = Word {
     name: "force",
     given: Given::Flag(&[]),
-    help: Message {
-        english: "Write OUT whatever file it is, but for BOOK",
-        german: "Schreibt OUT, welche Datei auch immer dort liegt, nur nicht über BOOK",
-    },
+    help: FORCE_HELP,
 };
 
 /// The option that `clap` adds to every command.
 pub(crate) const HELP: Word = Word {
     name: "help",
     given: Given::Letter('h'),
-    help: Message {
-        english: "Print help",
-        german: "Zeigt diese Hilfe",
-    },
+    help: HELP_HELP,
 };
 
 /// The option that it adds to the program.
 pub(crate) const VERSION: Word = Word {
     name: "version",
     given: Given::Letter('V'),
-    help: Message {
-        english: "Print version",
-        german: "Zeigt die Version",
-    },
+    help: VERSION_HELP,
 };
 
 /// The options of every command, of the one that writes a file, and those of a command that reports.

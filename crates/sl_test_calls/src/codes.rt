@@ -1,4 +1,4 @@
-//! Codes of rulebooks and their runs. Tests have well-formed rulebooks and ample memory here; what else comes is told as a text.
+//! Codes of rulebooks and their runs. Tests have well-formed rulebooks and ample memory here; what else comes is reported as a text.
 
 ghost use Rattle.std.specs.Prelude.{IfOk};
 ghost use Rattle.sl_machine.specs.Fits.{Fits};

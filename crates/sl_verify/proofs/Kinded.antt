@@ -57,7 +57,7 @@ module _ (code : CountingCode) where
 
   -- ---- kinds from a pass
 
-  -- the kinds that the pass gives to each place, where these come to the first
+  -- the kinds that the pass gives to each place, where these reach the first
   abbrev kinds_along : List Instr → Option Kinds → ℕ → Kinds
   kinds_along [] comes p = start_kinds
   kinds_along (i ∷ is) comes zero = kinds_here comes (declared_by i)

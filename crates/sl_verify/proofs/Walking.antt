@@ -13,7 +13,7 @@ use Rattle.sl_base_terms.specs.Tests.{first_failing}
 use Rattle.sl_verify.specs.Faults.{instr_tests, pass_tests}
 use Rattle.sl_base_terms.proofs.Tests.{fails_in_row}
 
--- the tests before place p hold, and these kinds come to it: the first test that fails is one of the rest
+-- the tests before place p hold, and these kinds reach it: the first test that fails is one of the rest
 pub record Passed (code : CountingCode) (is : List Instr) (p : ℕ) (comes : Option Kinds) : Type 0 where
   pub rest : first_failing (pass_tests code 0 (Some start_kinds) is) ≡ first_failing (pass_tests code p comes (drop p is))
   pub after : comes_after (Some start_kinds) is ≡ comes_after comes (drop p is)

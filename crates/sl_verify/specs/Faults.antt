@@ -30,7 +30,7 @@ need_tests code p k i =
     ∷ test (has_kinds (context_of code) k i) (fault.Kind p)
     ∷ test (has_table k i) (fault.TableKind p) ∷ []
 
--- a jump at place p comes to what is declared at its target
+-- a jump at place p leads to what is declared at its target
 abbrev pub landing_tests : ℕ → Kinds → Option Kinds → List (Test VerifyFault)
 landing_tests p k None = test false (fault.Jump p) ∷ []
 landing_tests p k (Some d) = test (implies k d) (fault.Meet p) ∷ []
@@ -49,12 +49,12 @@ instr_tests code p comes i = coming_tests p comes (declared_by i) ++ own_tests c
 
 -- ---- a code
 
--- the tests of the instructions from place p on, where these kinds come to the first of them
+-- the tests of the instructions from place p on, where these kinds reach the first of them
 abbrev pub pass_tests : CountingCode → ℕ → Option Kinds → List Instr → List (Test VerifyFault)
 pass_tests code p comes [] = []
 pass_tests code p comes (i ∷ is) = instr_tests code p comes i ++ pass_tests code (suc p) (comes_next comes i) is
 
--- nothing comes to place p, after the last instruction; RunsOff names the instruction before, and at the start the first
+-- nothing reaches place p, after the last instruction; RunsOff names the instruction before, and at the start the first
 abbrev pub end_tests : ℕ → Option Kinds → List (Test VerifyFault)
 end_tests p None = []
 end_tests p (Some c) = test false (fault.RunsOff (p - 1)) ∷ []

@@ -37,14 +37,14 @@ abbrev pub coming : List Instr → Option Kinds → (ℕ → Kinds) → ℕ → 
 coming instrs start kinds zero = start
 coming instrs start kinds (suc p) = option_and_then (behind (kinds p)) (slice_get instrs p)
 
--- a place has the kinds that come to it; an `at` has those that it declares, and what comes implies them
+-- a place has the kinds that reach it; an `at` has those that it declares, and what comes implies them
 abbrev pub Stands : Option Kinds → Option Kinds → Kinds → Type 0
 Stands None None k = ⊥
 Stands None (Some d) k = k ≡ d
 Stands (Some c) None k = k ≡ c
 Stands (Some c) (Some d) k = (k ≡ d) × IsTrue (implies c d)
 
--- an instruction with these kinds at its place, where those come to it
+-- an instruction with these kinds at its place, where those reach it
 pub record IsKinded (code : CountingCode) (comes : Option Kinds) (k : Kinds) (i : Instr) : Type 0 where
   pub stands : Stands comes (declared_by i) k
   pub needs : IsTrue (has_needs (context_of code) k i)

@@ -112,7 +112,7 @@ fn check_own(code: &Code, place: usize, kinds: Kinds, instr: Instr) -> Result<()
     check_jump(code, place, carried(kinds, instr), instr.target())
 }
 
-/// The kinds after an instruction, where these come to it.
+/// The kinds after an instruction, where these reach it.
 #[tactic(auto, using(sl_base_terms::proofs::Tests::fails_in_row))]
 fn check_instr(
     code: &Code,

@@ -29,7 +29,7 @@ counts <- function(book, returns, numbers) {
 
 CELLS <- c("kind", "land", "party", "a", "b", "c")
 
-# The records of returns behind their header, which is kept as an attribute.
+# The records of returns after their header, which is kept as an attribute.
 records_of <- function(returns) {
   text <- sub("^\ufeff", "", read_text(bytes(returns)))
   records <- utils::read.csv(text = text, header = FALSE, colClasses = "character", col.names = CELLS, na.strings = character(), encoding = "UTF-8")
@@ -64,7 +64,7 @@ template_of <- function(returns) {
   records[is_list, c("a", "b")] <- ""
   rows <- do.call(paste, c(rbind(attr(records, "header"), records), sep = ","))
   ends <- cumsum(nchar(rows, "bytes") + 1)
-  # behind a list's votes stand two commas, its last cell and the end of its line
+  # two commas follow a list's votes, its last cell and the end of its line
   last <- ends[-1][is_list] - nchar(records$c[is_list], "bytes") - 2
   list(
     text = bytes(paste0(paste(rows, collapse = "\n"), "\n")), lists = sum(is_list), base = base, names = names_of(records),

@@ -55,7 +55,7 @@ STRING <- '"(?:[^"\\\\]++|\\\\.)*+"'
 VALUE <- paste0("(?:", STRING, '|\\[(?:[^"\\]]++|', STRING, ")*+\\]|\\{[^{}]*+\\}|[^,}\\]]++)")
 
 # The JSON of the first member of that name: a text, texts, an object of numbers, a number or null. No text has such a member in it, since its quotes
-# stand behind a backslash, and the members of the heading stand before the tables.
+# stand after a backslash, and the members of the heading stand before the tables.
 member_of <- function(json, name) {
   found <- regmatches(json, regexpr(paste0('"', name, '":', VALUE), json, perl = TRUE))
   substring(found, nchar(name) + 4)

@@ -8,6 +8,9 @@ law <- function(name = NULL, file = NULL) {
 # The text of a statute as bytes.
 law_text <- function(name) charToRaw(text_of(ask("law", bytes(name))))
 
+# The names of the statutes of the library.
+statutes <- function() strsplit(.Call(C_statutes), "\n")[[1]]
+
 # Returns of a file.
 read_returns <- function(file) readBin(file, "raw", file.size(file))
 
@@ -63,7 +66,7 @@ totals <- function(returns, book = raw(), names = raw()) {
   tables_of(text_of(ask("totals", book, returns, bytes(names)), of_count(or_statute(book), returns)))
 }
 
-compare <- function(returns, books = paste0("@", c("1956", "1985", "2008", "2013", "2023", "2023-order")), names = raw()) {
+compare <- function(returns, books = paste0("@", statutes()), names = raw()) {
   returns <- bytes(returns)
   tables_of(text_of(ask("compare", bytes(paste(books, collapse = "\n")), raw(), returns, bytes(names)), of_count(or_statute(raw()), returns)))
 }

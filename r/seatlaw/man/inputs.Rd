@@ -2,6 +2,7 @@
 \name{law}
 \alias{law}
 \alias{law_text}
+\alias{statutes}
 \alias{read_returns}
 \alias{make_returns}
 \title{Rulebooks and returns}
@@ -9,11 +10,12 @@
 \usage{
 law(name = NULL, file = NULL)
 law_text(name)
+statutes()
 read_returns(file)
 make_returns(lands, parties, lists, winners = NULL, lots = NULL, house = NULL)
 }
 \arguments{
-  \item{name}{the name of a statute: 1956, 1985, 2008, 2013, 2023 or 2023-order.}
+  \item{name}{the name of a statute, one of \code{statutes()}.}
   \item{file}{the path of a file.}
   \item{lands}{a data frame with \code{land} and \code{people}.}
   \item{parties}{one with \code{party}, and with \code{minority} where there are parties of a national minority.}
@@ -22,7 +24,8 @@ make_returns(lands, parties, lists, winners = NULL, lots = NULL, house = NULL)
   \item{lots}{one with \code{land}, \code{party}, \code{stage} and \code{constituency}, in the order in which they were drawn.}
   \item{house}{the number of seats of the house.}
 }
-\value{Bytes, as \code{\link{count}} takes them. Nothing is judged before the count.}
+\value{Bytes, as \code{\link{count}} takes them; of \code{statutes} the names of the statutes. Nothing is judged before the count.}
 \examples{
+statutes()
 cat(rawToChar(law("2023")))
 }

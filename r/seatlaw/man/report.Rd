@@ -8,16 +8,13 @@
 \usage{
 report(book, returns, names = raw())
 totals(returns, book = raw(), names = raw())
-compare(
-  returns, books = paste0("@", c("1956", "1985", "2008", "2013", "2023", "2023-order")),
-  names = raw()
-)
+compare(returns, books = paste0("@", statutes()), names = raw())
 }
 \arguments{
   \item{book}{a rulebook, as \code{\link{count}} takes it; of \code{totals} it may be left out.}
   \item{returns}{returns.}
   \item{names}{a file of full names; none by default.}
-  \item{books}{names of statutes with \code{@} before them.}
+  \item{books}{names of statutes with \code{@} before them; by default all.}
 }
 \value{
   Data frames by the names of the tables, where the package \code{jsonlite} is there, and else the JSON. In that of \code{scopes} the columns

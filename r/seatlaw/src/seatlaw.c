@@ -90,7 +90,7 @@ static SEXP ask_parts(SEXP name, SEXP inputs) {
     return result;
 }
 
-// Numbers that are whole and from 0 to 2^32 - 1, in memory that R takes back behind the call.
+// Numbers that are whole and from 0 to 2^32 - 1, in memory that R takes back after the call.
 static uint32_t *whole(SEXP numbers) {
     uint32_t *made = (uint32_t *)R_alloc((size_t)XLENGTH(numbers) + 1, sizeof *made);
     for (R_xlen_t i = 0; i < XLENGTH(numbers); i++) made[i] = (uint32_t)REAL(numbers)[i];
@@ -103,7 +103,7 @@ static size_t *places_of(SEXP places) {
     return made;
 }
 
-// Counts rows of numbers, which stand one behind the other; `shape` has how many rows there are, how many numbers a row has, and how many numbers a
+// Counts rows of numbers, which stand one after the other; `shape` has how many rows there are, how many numbers a row has, and how many numbers a
 // row of seats. Gives a list of the statuses and the seats.
 static SEXP counts(SEXP book, SEXP text, SEXP places, SEXP columns, SEXP numbers, SEXP shape) {
     size_t rows = (size_t)REAL(shape)[0], width = (size_t)REAL(shape)[2];
@@ -119,8 +119,12 @@ static SEXP counts(SEXP book, SEXP text, SEXP places, SEXP columns, SEXP numbers
     return result;
 }
 
+static SEXP statutes(void) {
+    return Rf_mkString(seatlaw_statutes());
+}
+
 static const R_CallMethodDef calls[] = {
-    {"ask", (DL_FUNC)&ask, 2}, {"ask_parts", (DL_FUNC)&ask_parts, 2}, {"counts", (DL_FUNC)&counts, 6}, {NULL, NULL, 0}};
+    {"ask", (DL_FUNC)&ask, 2}, {"ask_parts", (DL_FUNC)&ask_parts, 2}, {"counts", (DL_FUNC)&counts, 6}, {"statutes", (DL_FUNC)&statutes, 0}, {NULL, NULL, 0}};
 
 void R_init_seatlaw(DllInfo *library) {
     R_registerRoutines(library, NULL, calls, NULL, NULL);

@@ -25,7 +25,7 @@ abbrev pub divisor_of : Method → Divisor
 divisor_of (by.Divisor d) = d
 divisor_of by.Hamilton = divisor.Webster
 
--- the instructions of the blanks, in order. The weights of a method that does not round are not told
+-- the instructions of the blanks, in order. The weights of a method that does not round are not recorded
 abbrev pub given_of : Block → List Instr
 given_of b =
     let stage = b.job.stage in

@@ -48,7 +48,7 @@ list_parts index lands parties below =
     ] in
     ((div-lt_iff_lt-mul some).1 below, mod-lt index some)
 
--- the cursors come to an entry in range
+-- the cursors reach an entry in range
 pub pointed : (e : Election) (k : Kinds) (s : State) (kind : Entries) (index : ℕ) → index < entries_in e kind → Keeps e k s
     → Keeps e (record k { cursors = join k.cursors (entry_cursors kind) }) (at_entry e kind index s)
 pointed e k s entries.List index below h =
@@ -66,7 +66,7 @@ pub mapped_there : {A B : Type 0} (f : A → B) (o : Option A) → IsSomeAnd o (
 mapped_there f None h = h
 mapped_there f (Some x) h = tt
 
--- what is told of a stage that there is, or of the last clause
+-- what is recorded of a stage that exists, or of the last clause
 pub chosen_there : {A : Type 0} (c : CountingCode) (n : ℕ) (x : A) (f : CodeStage → A) → IsTrue (has_stage (context_of c) n)
     → IsSomeAnd (if n == LAST_CLAUSE then Some x else option_map f (slice_get c.stages n)) (λ y. ⊤)
 chosen_there {A} c n x f h = of (n == LAST_CLAUSE) h

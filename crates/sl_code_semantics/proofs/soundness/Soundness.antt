@@ -83,7 +83,7 @@ there_is : {A : Type 0} (o : Option A) → IsSomeAnd o (λ x. ⊤) → (x : A) �
 there_is None h = absurd h
 there_is (Some x) h = (x, refl)
 
--- where kinds come to a place, a state of which they are known is one of which those of the place are
+-- where kinds reach a place, a state of which they are known is one of which those of the place are
 stood : (s : State) (comes k : Kinds) (declared : Option Kinds) → Stands (Some comes) declared k → Agrees comes s → Agrees k s
 stood s comes k None same h = subst (λ (x : Kinds). Agrees x s) (sym same) h
 stood s comes k (Some d) both h = subst (λ (x : Kinds). Agrees x s) (sym both.0) (agrees_implied comes d s both.1 h)
@@ -194,7 +194,7 @@ safe_steps c e p s safe =
 
 -- ---- runs
 module _ (c : CountingCode) (e : Election) where
-  -- a step that comes to a safe place, or ends the run
+  -- a step that reaches a safe place, or ends the run
   abbrev IsSafeStep : Step → Type 0
   IsSafeStep (To q t) = IsSafe c e q t
   IsSafeStep (Over x) = Unit {0}

@@ -1,4 +1,4 @@
--- From the start on, the plans of a book's facts come to a state that holds them, and in which nothing else is done yet.
+-- From the start on, the plans of a book's facts reach a state that holds them, and in which nothing else is done yet.
 use Rattle.std.proofs.Common.{◌≡◌, ℕ, ◌+◌, ◌<◌, List, [], ◌∷◌, length, map, refl, sym, subst, arith}
 use Rattle.std.proofs.lemmas.Option.{none-some}
 use Rattle.sl_stages.specs.declared.book.Cond.{Cond}
@@ -29,7 +29,7 @@ use Rattle.sl_compile.specs.Conditions.{SayTheSame}
 use Rattle.sl_compile.specs.Codes.{facts_pieces}
 use Rattle.sl_compile.proofs.rulebooks.Told.{IsBlank, Told, AreNumbered, one_told}
 
--- the facts are told, and no stage is after
+-- the facts are stored, and no stage is after
 pub record HasFacts (b : BookTree) (e : Election) (s : State) : Type 0 where
   pub behind : IsBehind b e nothing_known s s
   pub flags : HoldsColumn e shape.Party (s.columns fact_slots.eligible) (flags b.eligible e)
@@ -44,7 +44,7 @@ all_numbered facts.House = omega arith
 all_numbered told = omega arith
 
 module _ (c : CountingCode) (few : List Cond) (b : BookTree) (e : Election) (is : IsElection e) (slots : HasFactSlots c fact_slots) (same : SayTheSame few b.eligible) where
-  -- where all are told
+  -- where all are stored
   all_told : (s : State) → Told b e (length FACTS) s → HasFacts b e s
   all_told s h = record {
     behind = record {

@@ -1,4 +1,4 @@
--- From the start on, all plans of a book come to the table that the book means, or end the run with the fault that it means.
+-- From the start on, all plans of a book yield the table that the book means, or end the run with the fault that it means.
 use Rattle.std.proofs.Common.{◌≡◌, true, List, [], ◌++◌, None, length, refl, sym, subst, ◌∙◌, arith}
 use Rattle.std.specs.List.{list_all}
 use Rattle.sl_stages.specs.declared.book.Cond.{Cond}
@@ -32,7 +32,7 @@ use Rattle.sl_compile.proofs.rulebooks.Known.{known_types}
 use Rattle.sl_compile.proofs.rulebooks.Told.{IsBlank}
 use Rattle.sl_compile.proofs.rulebooks.Facts.{HasFacts, facts_achieve}
 
--- all plans are done: the facts were told in one state, the stages stood after in another, and the last clause came to this one
+-- all plans are done: the facts were stored in one state, the stages stood after in another, and the last clause came to this one
 pub record IsDone (c : CountingCode) (b : BookTree) (e : Election) (s : State) : Type 0 where
   pub known : Known
   pub means : StagesMean b e nothing_known b.stages (Through known)

@@ -1,4 +1,4 @@
--- Facts that are told one after the other, from the start on: what holds after each plan.
+-- Facts that are stored one after the other, from the start on: what holds after each plan.
 use Rattle.std.proofs.Common.{◌≡◌, ℕ, ◌+◌, ◌<◌, List, [], length, map, get_or, refl, sym, ap, subst, ◌∙◌, inl, inr, arith}
 use Rattle.std.specs.List.{range_with_len}
 use Rattle.std.proofs.lemmas.Bool.{cases_eq}

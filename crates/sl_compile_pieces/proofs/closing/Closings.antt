@@ -1,4 +1,4 @@
--- The plans of the last clause come to the table that the book means, or end the run with the first tie.
+-- The plans of the last clause yield the table that the book means, or end the run with the first tie.
 use Rattle.std.proofs.Common.{◌≡◌, length, refl}
 use Rattle.sl_stages.specs.declared.book.Seating.{Seating}
 use Rattle.sl_stages.specs.declared.book.Seating.TheVariants as seating

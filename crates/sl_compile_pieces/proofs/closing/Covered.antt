@@ -1,4 +1,4 @@
--- Under `cover` a list has its base, and its winners come to a choice for its seats, or the run ends with the first tie.
+-- Under `cover` a list has its base and a choice of winners for its seats, or the run ends with the first tie.
 use Rattle.std.proofs.Common.{◌≡◌, ℕ, ◌+◌, ◌*◌, ◌<◌, ◌≤◌, Bool, min, List, [], length, map, get_or, Option, Some, slice_get, slice_index, sym, ap, subst, ◌∙◌, arith}
 use Rattle.std.specs.Prelude.{zip, filter_map, flat_map, option_map, unwrap_or}
 use Rattle.std.specs.List.{enumerate_from}

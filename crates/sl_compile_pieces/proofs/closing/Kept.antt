@@ -59,7 +59,7 @@ module _ (c : CountingCode) (b : BookTree) (e : Election) (is : IsElection e) (s
   abbrev eligible : ℕ → Bool
   eligible = is_eligible b.eligible e
 
-  -- the first winners have their places, and the eligible parties are still told
+  -- the first winners have their places, and the eligible parties are still stored
   record FirstPlaced (start : State) (j : ℕ) (t : State) : Type 0 where
     places : PlacedSoFar e (λ y. kept_place b e y.1) (λ y. start.placed y.0) j t
     flagged : Flagged e fact_slots eligible t
@@ -133,7 +133,7 @@ module _ (c : CountingCode) (b : BookTree) (e : Election) (k : Known) (before s 
         columns = λ slot q high. p.columns slot q ∙ g.changes.columns slot q (λ same. omega (arith, high, same));
       }
 
-  -- the eligible parties are told after the larger column
+  -- the eligible parties are stored after the larger column
   flagged_then : (t : State) → IsMade e max from winners_slot final_seats s t → Flagged e fact_slots (is_eligible b.eligible e) t
   flagged_then t g party less =
       g.changes.columns fact_slots.eligible party (λ same. omega (arith, same))

@@ -39,7 +39,7 @@ no_seats n i = elim (cases_lt i n) [
   | inr past ↦ get_or_past (replicate n 0) i 0 (omega (arith, past, length-replicate {A = ℕ} n 0))
 ]
 
--- what names leave, where they are told, and nothing where they are not
+-- what names leave, where they are given, and nothing where they are not
 names_leave : (at : ℕ) (o : Option ListVotes) (seats direct won : ℕ) → seats - direct ≡ seats - won → seats ≤ most → seats - won - names_or_most o ≡ vacant_by (Some at) (slate_in o) seats direct
 names_leave at None seats direct won same few = omega (arith, few)
 names_leave at (Some v) seats direct won same few = of_slate v.slate

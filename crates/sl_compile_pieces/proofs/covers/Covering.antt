@@ -1,4 +1,4 @@
--- The plan of a covering: list by list the winners come to a choice, up to the first tie.
+-- The plan of a covering: list by list a choice of winners is made, up to the first tie.
 use Rattle.std.proofs.Common.{ne_eqb, ◌≡◌, ◌≢◌, ◌⊎◌, ℕ, zero, suc, ◌+◌, ◌-◌, ◌*◌, ◌<◌, ◌≤◌, Bool, true, false, List, [], ◌∷◌, ◌++◌, Some, slice_get, is_none, nat_eq, refl, sym, ap, subst, append_assoc, ◌∙◌, inl, inr, arith}
 use Rattle.std.specs.Prelude.{if◌then◌else◌}
 use Rattle.std.proofs.Math.Bool.{or_comm}

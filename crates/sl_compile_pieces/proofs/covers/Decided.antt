@@ -1,4 +1,4 @@
--- Lists that come to choices, one after the other, up to the first tie.
+-- Lists that yield choices, one after the other, up to the first tie.
 use Rattle.std.proofs.Common.{◌≡◌, ℕ, Bool, false, List, [], ◌∷◌, ◌++◌, length, slice_get, sym, ap, ap₂, subst, append_assoc, ◌∙◌, inl, inr, arith}
 use Rattle.std.specs.Prelude.{zip, flat_map, filter_map}
 use Rattle.std.specs.List.{AllZip}
@@ -56,7 +56,7 @@ module _ (c : CountingCode) (eligible : ℕ → Bool) (e : Election) (base : Lis
             ∙ ap₂ (λ (ks ns : List ℕ). ks ++ ns) d.seated_are (append-nil (seated_on eligible e (l, Decided s)));
       }
 
-  -- the first list with a tie ends the run: those after it come to some choice
+  -- the first list with a tie ends the run: those after it yield some choice
   pub first_tie : (ls : List (ℕ × ℕ)) (seated : List ℕ) (l : ℕ × ℕ) (behind : List (ℕ × ℕ)) (end : End) → IsElection e → AreDecided ls seated → EndsInListTie c eligible e base l end →
       lists_of e ≡ (ls ++ l ∷ []) ++ behind → EndsInTie c e eligible base end
   first_tie ls seated l behind end is d h all =

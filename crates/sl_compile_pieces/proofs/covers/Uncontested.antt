@@ -73,7 +73,7 @@ module _ (eligible : ℕ → Bool) (e : Election) (is : IsElection e) (base : Li
           | inr high ↦ past_all s hs i high ∙ sym (past_all t ht i high)
         ]
 
-    -- an uncontested list comes to a choice, by which those are seated who are seated at once
+    -- an uncontested list yields a choice, by which those are seated who are seated at once
     pub uncontested_choice : is_contested e eligible base q ≡ false → (s : List ℕ) × IsSeating eligible e base l (Decided s) × (seated_on eligible e (l, Decided s) ≡ at_once e eligible base q)
     uncontested_choice not = by_seats (slice_index base q) refl
       where

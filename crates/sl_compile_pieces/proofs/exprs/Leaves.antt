@@ -39,7 +39,7 @@ module _ {b : BookTree} {e : Election} {types : List Column} {columns : List Nam
         stages = λ k u x typed valued. kept (stage_slot k) _ _ (inr (omega arith)) (h.stages k u x typed valued);
       }
 
-  -- while an argument comes to its column
+  -- while an argument yields its column
   pub known_kept : (level : ℕ) {IsResult : ExprResult → Type 0} {shape : Shape} {slot : ℕ} {s t : State} → ComesTo e IsResult shape slot (first_of level) s t
       → HoldsKnown b e types columns s → HoldsKnown b e types columns t
   known_kept level {s = s} {t = t} came h = known_when_kept s t (λ k q apart. came.columns k q (below level k apart)) h

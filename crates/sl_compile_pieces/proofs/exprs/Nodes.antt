@@ -1,4 +1,4 @@
--- Splits and growths, whose arguments are in passing columns.
+-- Splits and growths, whose arguments are in scratch columns.
 use Rattle.std.proofs.Common.{◌≡◌, ℕ, get_or, ◌+◌, ◌<◌, ◌≤◌, Bool, true, false, ◌==◌, if◌then◌else◌, List, [], ◌∷◌, All, length, Option, None, Some, slice_get, ap, subst, ◌∙◌, arith}
 use Rattle.std.specs.Prelude.{option_map}
 use Rattle.std.proofs.lemmas.Bool.{false≢true, ne_eqb}

@@ -1,4 +1,4 @@
--- Where the columns in passing stand.
+-- Where the scratch columns stand.
 use Rattle.std.proofs.Common.{◌≡◌, ◌≢◌, ◌⊎◌, ℕ, ◌+◌, ◌<◌, ◌≤◌, List, Some, slice_get, refl, sym, ap, ◌∙◌, inl, inr, arith}
 use Rattle.sl_base_terms.specs.declared.shape.Shape.{Shape}
 use Rattle.sl_base_terms.specs.declared.shape.Shape.TheVariants as shape
@@ -40,7 +40,7 @@ level_below k level s less = let few = number_few s in omega (arith, few, less)
 other_level : (k level : ℕ) (s v : Shape) → k < level → passing level v ≢ passing k s
 other_level k level s v less same = let below = level_below k level s less in omega (arith, below, same)
 
--- no column in passing is changed on a later level, nor that of a fact or of a stage on any
+-- no scratch column is changed on a later level, nor that of a fact or of a stage on any
 pub outside : (k first slot : ℕ) → (k < first) ⊎ (FIRST_STAGE_SLOT ≤ k) → first ≤ slot → slot < FIRST_STAGE_SLOT → k ≢ slot
 outside k first slot (inl low) from within same = omega (arith, low, from, within, same)
 outside k first slot (inr high) from within same = omega (arith, high, from, within, same)

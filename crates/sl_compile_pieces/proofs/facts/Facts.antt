@@ -1,4 +1,4 @@
--- The columns of the house, votes and people, and all that a rulebook can name beside who is eligible.
+-- The columns of the house, votes and people, and all that a rulebook can name besides who is eligible.
 use Rattle.std.proofs.Common.{inl, inr, ◌≡◌, ◌≢◌, ℕ, ◌+◌, ◌*◌, ◌<◌, ◌≤◌, Bool, true, false, List, [], ◌∷◌, Option, Some, None, if◌then◌else◌, refl, sym, ap, ◌∙◌, arith}
 use Rattle.std.specs.Prelude.{unwrap_or}
 use Rattle.std.proofs.lemmas.Bool.{ne_eqb, cases_eq}

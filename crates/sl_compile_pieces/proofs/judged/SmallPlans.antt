@@ -31,7 +31,7 @@ pub record IsJudged (plain by_win size : ℕ) (tree : Tree) : Type 0 where
 pub judged_modest : (plain by_win size : ℕ) (tree : Tree) → IsJudged plain by_win size tree → IsModest plain by_win size tree
 judged_modest plain by_win size tree h = record { is = h.modest }
 
--- any plan of an expression but that of a split or a growth; that of a fact, or one beside a covering; that of a covering
+-- any plan of an expression but that of a split or a growth; that of a fact, or one besides a covering; that of a covering
 abbrev pub IsColumnPlan : Tree → Type 0
 IsColumnPlan = IsJudged 19 0 14
 

@@ -20,7 +20,7 @@ module _ (x : Slots) where
   abbrev IsFineSplit : Option ℕ → Form → Method → Majority → Type 0
   IsFineSplit minima f method m = IsFineAs f (names_of x minima (λ n. n)) (split_tree f (roles minima) method m) (split_tree f (record x { minima = minima }) method m)
 
-  -- each form and each majority clause is a case of its own, and each divisor where there are no minima: without minima weights are told, by some divisors
+  -- each form and each majority clause is a case of its own, and each divisor where there are no minima: without minima weights are recorded, by some divisors
   split_as : (minima : Option ℕ) (f : Form) (method : Method) (m : Majority) → IsFineSplit minima f method m
   split_as None AllParties (by.Divisor divisor.Adams) majority.Free = record { fine = refl; ranged = refl; same = refl; modest = refl }
   split_as _ AllParties (by.Divisor d) majority.Free = record { fine = refl; ranged = refl; same = refl; modest = refl }

@@ -110,7 +110,7 @@ module _ (e : Election) (f : Form) where
   entry_of : (m j : ℕ) (g : Group) (i : Item) → slice_get (groups_of e f) m ≡ Some g → slice_get g.entries j ≡ Some i → item_of e (table_of f) (place e i) ≡ i
   entry_of m j g i group entry = let is : IsEntry e (table_of f) (votes_of f) g.scope i = (scopes_hold e f m g group).entry j i entry in is.item
 
-  -- nothing is told of what is no entry
+  -- nothing is recorded of what is no entry
   told_nowhere : (awards : List Award) (q : ℕ) → (Somewhere (EntryAt q) (groups_of e f) → ⊥) → told_of (pairs_of awards) (item_of e (table_of f) q) ≡ 0
   told_nowhere awards q none =
       let y : Item = item_of e (table_of f) q in

@@ -76,11 +76,11 @@ module _ (c : CountingCode) (e : Election) (f : Form) (g : Group) (scope : IsSco
       leaves = record { registers = refl; columns = λ slot. refl; party = refl; land = refl; win = refl; placed = refl; steps = refl };
     }
 
-    -- the weight of an entry, as it is told
+    -- the weight of an entry, as it is recorded
     abbrev pub weight_of : Divisor → ℕ → Item → Weight
     weight_of d j i = record { stage = x.stage; scope = g.scope; entry = i; divisor = d; weight = slice_index v j }
 
-    -- it is told, or nothing is
+    -- it is recorded, or nothing is
     abbrev pub told_where : Bool → Divisor → ℕ → Item → List Weight
     told_where told d j i = if told then weight_of d j i ∷ [] else []
 
@@ -106,7 +106,7 @@ module _ (c : CountingCode) (e : Election) (f : Form) (g : Group) (scope : IsSco
         leaves = record { registers = refl; columns = λ slot. refl; party = refl; land = refl; win = refl; placed = refl; steps = refl };
       }
 
-      -- the weights of a method that rounds are told where no minima are written
+      -- the weights of a method that rounds are recorded where no minima are written
       entered : (o : Option Rounding) (d : Divisor) → let by : Divisor = unwrap_or (option_map divisor_of o) d in
           EntersNext c e g (arena_of by) v seats Any (told_where (is_some o) by) (Line (weigh f x o ++ Prio by reg.WEIGHT reg.BASE ∷ []))
       entered None d = plain_enters d

@@ -43,7 +43,7 @@ use Rattle.sl_compile_pieces.proofs.scopes.Staying.{item_stays}
 use Rattle.sl_compile_pieces.specs.seats.Trees.{give_seats, fill_entry}
 use Rattle.sl_compile_pieces.proofs.seats.Minima.{minima_kept}
 
--- ---- of the first entries: their next seats, the records of their first ones, and their weights that are told
+-- ---- of the first entries: their next seats, the records of their first ones, and their weights that are recorded
 
 abbrev pub first_waiting : Arena → ℕ → List Entry
 first_waiting a j = flat_map (next_seat a a.ladders.base) (take j (range_with_len 0 (length a.places)))

@@ -171,7 +171,7 @@ module _ (c : CountingCode) (e : Election) (f : Form) (x : Slots) (name : List �
   told_weights : Bool → Divisor → List Weight
   told_weights told d = if told then field_weights x.stage g.scope g.entries d v else []
 
-  -- the weights that are told in the end
+  -- the weights that are recorded in the end
   told_all : (b : List ℕ) (told : Bool) (d : Divisor)
       → flat_map (λ y. told_of (told_where c e f g scope v seats ready.weights ready.few x b told d) v y.0 y.1) (enumerate_from 0 g.entries) ≡ told_weights told d
   unfolding told_weights

@@ -36,7 +36,7 @@ module _ {c : CountingCode} {e : Election} {f : Form} {x : Slots} {name : List �
       → Achieves c e (faulty f x why) s Q E
   faulty_ends s why on h = stop_achieves (fault_ends c e s x.stage (kind_of f) x.stage g.scope slots.stage (scope.kind s on) why) h
 
-  -- it does where the register holds more than the number, and else only a register in passing was written
+  -- it does where the register holds more than the number, and else only a scratch register was written
   pub not_over_achieves : {Q : State → Type 0} {E : End → Type 0} (s : State) (r n : ℕ) (why : EndFault) → r ≢ reg.FIRST_PASSING → OnScope g.scope s
       → (n < s.registers r → E (Faulted (fault_at x.stage g.scope (effects.kind_of why)))) → (s.registers r ≤ n → Q (with_register reg.FIRST_PASSING n s))
       → Achieves c e (not_over f x r n why) s Q E

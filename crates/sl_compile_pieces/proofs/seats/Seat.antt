@@ -1,4 +1,4 @@
--- The entry of a seat gets it: its cell is one more, the record is told, its next seat waits again; and what stands in the scope still stands.
+-- The entry of a seat gets it: its cell is one more, the record is kept, its next seat waits again; and what stands in the scope still stands.
 use Rattle.std.proofs.Common.{◌≡◌, ◌≢◌, ℕ, ◌+◌, ◌≤◌, min, List, [], ◌∷◌, ◌++◌, Some, slice_get, refl, sym, ap, subst, ◌∙◌, arith, false, inl, inr}
 use Rattle.std.specs.Prelude.{slice_index}
 use Rattle.std.proofs.lemmas.Bool.{cases_eq, or_parts}
@@ -94,7 +94,7 @@ module _ (c : CountingCode) (e : Election) (f : Form) (x : Slots) (name : List �
   entry : IsEntry e (table_of f) (votes_of f) g.scope i
   entry = of.scope.entry j i at
 
-  -- the record that is told where the cursors stand at the entry, and the register holds that number
+  -- the record that is kept where the cursors stand at the entry, and the register holds that number
   module _ (t : PriorityTable) (kind : t.entries ≡ table_of f) (s : State) (on : OnItem i s) (table : s.table ≡ Some t) (held : s.registers reg.HELD ≡ n + 1) where
     emits : {Q : State → Type 0} →
         Q (with_step (awarded_step x.stage g.scope i n (s.registers reg.STEP) s.mark) s) →

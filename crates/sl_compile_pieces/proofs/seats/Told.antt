@@ -1,4 +1,4 @@
--- The weights that are told while a scope is filled are those of the field.
+-- The weights that are recorded while a scope is filled are those of the field.
 use Rattle.std.proofs.Common.{◌≡◌, ℕ, suc, ◌+◌, List, [], ◌∷◌, length, map, refl, sym, ap, ◌∙◌, inl, inr, arith}
 use Rattle.std.specs.Prelude.{flat_map, nat_lt, slice_index}
 use Rattle.std.specs.List.{filter, zip, enumerate_from}
@@ -8,7 +8,7 @@ use Rattle.sl_stages.specs.declared.table.Weight.{Weight}
 use Rattle.sl_compile_pieces.specs.inner.seats.Filling.{told_of}
 
 module _ (v : List ℕ) where
-  -- where nothing is told of an entry, nothing is told
+  -- where nothing is recorded of an entry, nothing is
   pub none_told : (xs : List (ℕ × Item)) → flat_map (λ y. told_of (λ j i. []) v y.0 y.1) xs ≡ []
   none_told [] = refl
   none_told (y ∷ xs) =

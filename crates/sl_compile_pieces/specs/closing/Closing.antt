@@ -1,4 +1,4 @@
--- What the plans of a book's last clause achieve: after the stages they come to the table that the book means, or to the first tie
+-- What the plans of a book's last clause achieve: after the stages they yield the table that the book means, or end with the first tie
 -- (docs/compiler.md, section 6).
 use Rattle.std.specs.Prelude.{◌≡◌, ℕ, ◌≤◌, true, None, length}
 use Rattle.sl_base_terms.specs.declared.shape.Shape.TheVariants as shape
@@ -22,13 +22,13 @@ use Rattle.sl_compile_pieces.specs.exprs.Slots.{fact_slots, HasBookSlots, FIRST_
 use Rattle.sl_compile_pieces.specs.exprs.Stages.{IsBehind}
 use Rattle.sl_compile_pieces.specs.closing.Trees.{last_pieces, final_seats, vacant_slot}
 
--- where the last clause begins: the stages are after, the eligible parties are told, and no winner is placed
+-- where the last clause begins: the stages are after, the eligible parties are stored, and no winner is placed
 pub record BeginsClosing (b : BookTree) (e : Election) (k : Known) (before s : State) : Type 0 where
   pub behind : IsBehind b e k before s
   pub flags : HoldsColumn e shape.Party (s.columns fact_slots.eligible) (flags b.eligible e)
   pub nobody : (winner : ℕ) → s.placed winner ≡ placed.Unseated
 
--- the last clause comes to a table: its lists and places stand in what is held, nothing is recorded, and the columns of the stages are kept
+-- the last clause yields a table: its lists and places stand in what is held, nothing is recorded, and the columns of the stages are kept
 pub record HasClosed (c : CountingCode) (b : BookTree) (e : Election) (k : Known) (before after : State) : Type 0 where
   pub table : SeatTable
   pub means : IsEnd b e k (outcome.Table table)

@@ -28,7 +28,7 @@ pub record BeginsCovering (e : Election) (x : CoverSlots) (eligible : ℕ → Bo
   pub seats : (q : ℕ) → q < lands_of e * parties_of e → s.columns x.base q ≡ slice_index base q
   pub flags : (party : ℕ) → party < parties_of e → s.columns x.eligible party ≡ one_if (eligible party)
 
--- each list comes to a choice between its winners
+-- each list yields a choice between its winners
 pub record AreChoices (e : Election) (eligible : ℕ → Bool) (base : List ℕ) (choices : List Choice) : Type 0 where
   pub each : AllZip (IsSeating eligible e base) (lists_of e) choices
 

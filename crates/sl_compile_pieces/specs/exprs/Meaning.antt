@@ -39,7 +39,7 @@ pub record StandsIn (c : CountingCode) (x : Context) : Type 0 where
   pub staged : slice_get c.stages x.stage ≡ Some stage
   pub named : stage.name ≡ x.name
 
--- a result comes to a column: it is in that slot, its records are added, and no slot below the first one and no stage's is changed
+-- a result yields a column: it is in that slot, its records are added, and no slot below the first one and no stage's is changed
 pub record ComesTo (e : Election) (IsResult : results.ExprResult → Type 0) (of : Shape) (slot first : ℕ) (before after : State) : Type 0 where
   pub values : List ℕ
   pub records : Records
@@ -48,7 +48,7 @@ pub record ComesTo (e : Election) (IsResult : results.ExprResult → Type 0) (of
   pub columns : (k q : ℕ) → (k < first) ⊎ (FIRST_STAGE_SLOT ≤ k) → after.columns k q ≡ before.columns k q
   pub adds : AddsRecords records before after
 
--- an expression comes to a column in its slot; it may change the passing columns of this level and of later ones
+-- an expression yields a column in its slot; it may change the scratch columns of this level and of later ones
 abbrev pub HasExpr : BookTree → Election → Context → ExprTree → ℕ → State → State → Type 0
 HasExpr b e c x level =
     ComesTo e (ExprMeans b e c x) (type_of c.types x).shape (slot_of c.types level x) (passing level shape.One)

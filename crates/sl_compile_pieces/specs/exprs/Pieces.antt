@@ -37,7 +37,7 @@ module _ (types : List Column) where
   arguments_at level s v m = record { amounts = slot_of level s; votes = slot_of (level + 1) v; minima = option_map (slot_of (level + 2)) m }
 
 module _ (types : List Column) (stage : ℕ) where
-  -- the slots of a split, whose result comes to the passing column of the votes' shape
+  -- the slots of a split, whose result goes to the scratch column of the votes' shape
   abbrev pub node_slots : ℕ → Arguments → (votes : Shape) → Slots
   node_slots level from votes = record {
     stage = stage;

@@ -1,4 +1,4 @@
--- The slots of a compiled rulebook: facts, columns to work in, columns in passing, and a column for each stage (docs/compiler.md, section 3).
+-- The slots of a compiled rulebook: facts, columns to work in, scratch columns, and a column for each stage (docs/compiler.md, section 3).
 use Rattle.std.specs.Prelude.{◌≡◌, ℕ, ◌+◌, ◌*◌, ◌≤◌, List, Some, slice_get}
 use Rattle.sl_base_terms.specs.declared.shape.Shape.{Shape}
 use Rattle.sl_base_terms.specs.declared.shape.Shape.TheVariants as shape

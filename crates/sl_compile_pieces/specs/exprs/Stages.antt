@@ -45,7 +45,7 @@ pub record IsBehind (b : BookTree) (e : Election) (k : Known) (before s : State)
   pub low : (slot q : ℕ) → slot < FIRST_PASSING_SLOT → s.columns slot q ≡ before.columns slot q
   pub adds : AddsRecords k.records before s
 
--- the stages come to their columns
+-- the stages yield their columns
 pub record HasColumns (b : BookTree) (e : Election) (k : Known) (ss : List StageTree) (before s : State) : Type 0 where
   pub known : Known
   pub means : StagesMean b e k ss (Through known)

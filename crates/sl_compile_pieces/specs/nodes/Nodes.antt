@@ -24,7 +24,7 @@ use Rattle.sl_compile_pieces.specs.seats.Slots.{Slots, HasSlots}
 use Rattle.sl_compile_pieces.specs.nodes.Trees.{shared, split_tree, grow_tree}
 use Rattle.sl_compile_pieces.specs.nodes.Scopes.{AddsRecords, HoldsArguments, DoesScopes, stand}
 
--- the node comes to a column: it is in the slot of the result, its records are added, and all else is as it was
+-- the node yields a column: it is in the slot of the result, its records are added, and all else is as it was
 pub record HasResult (e : Election) (f : Form) (x : Slots) (IsResult : ExprResult → Type 0) (before after : State) : Type 0 where
   pub values : List ℕ
   pub records : Records
@@ -33,13 +33,13 @@ pub record HasResult (e : Election) (f : Form) (x : Slots) (IsResult : ExprResul
   pub columns : (slot q : ℕ) → slot ≢ x.result → after.columns slot q ≡ before.columns slot q
   pub adds : AddsRecords records before after
 
--- the node comes to a fault, and the run ends with it
+-- the node ends in a fault, and the run ends with it
 pub record EndsWith (IsResult : ExprResult → Type 0) (end : End) : Type 0 where
   pub fault : LegalFault
   pub result : IsResult (Fault fault)
   pub is : end ≡ Faulted fault
 
--- what is done in each scope, where each scope comes to an award, is done for the node
+-- what is done in each scope, where each scope yields an award, is done for the node
 abbrev pub ScopesAreJoined : Type 1
 ScopesAreJoined =
     (c : CountingCode) (e : Election) (f : Form) (x : Slots) (name : List ℕ) (amounts votes : List ℕ) (minima : Option (List ℕ))

@@ -1,4 +1,4 @@
--- What the plan of a scope achieves: the award that the scope comes to, or its fault (docs/blocks.md, section 4).
+-- What the plan of a scope achieves: the award of the scope, or its fault (docs/blocks.md, section 4).
 use Rattle.std.specs.Prelude.{◌≡◌, ◌≢◌, ℕ, ◌≤◌, List, Option, None, Some, ◌++◌, All, slice_get, slice_index, IsPermutation}
 use Rattle.sl_ratio.specs.declared.limits.TheConstants.{MAX_WEIGHT, MAX_SEATS}
 use Rattle.sl_base_terms.specs.declared.shape.Shape.{Shape}
@@ -48,7 +48,7 @@ AddsRecords records before after = record {
   placed : (winner : ℕ) → after.placed winner ≡ before.placed winner;
 }
 
--- the scope comes to seats: they are in the cells of its entries, their records are added, and all else is as it was
+-- the scope yields seats: they are in the cells of its entries, their records are added, and all else is as it was
 pub record HasAward (e : Election) (x : Slots) (IsAward : Group → Award → Type 0) (records : Group → List ℕ → Records) (g : Group) (before after : State) :
     Type 0 where
   pub seats : List ℕ
@@ -59,7 +59,7 @@ pub record HasAward (e : Election) (x : Slots) (IsAward : Group → Award → Ty
   pub columns : (slot q : ℕ) → slot ≢ x.result → after.columns slot q ≡ before.columns slot q
   pub adds : AddsRecords (records g seats) before after
 
--- the scope comes to a fault, and the run ends with it
+-- the scope ends in a fault, and the run ends with it
 pub record EndsFaulty (x : Slots) (IsAward : Group → Award → Type 0) (g : Group) (end : End) : Type 0 where
   pub kind : FaultKind
   pub refused : IsAward g (Refused kind)

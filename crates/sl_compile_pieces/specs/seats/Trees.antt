@@ -79,12 +79,12 @@ base_of by.Hamilton x = whole_base
 
 -- ---- how an entry with weight enters the table
 
--- the weights of a method that rounds are told
+-- the weights of a method that rounds are recorded
 abbrev pub weigh : Form → Slots → Option Rounding → List Instr
 weigh f x None = []
 weigh f x (Some by) = Weigh x.stage (kind_of f) by reg.WEIGHT ∷ []
 
--- where no minima are written, its weight is told
+-- where no minima are written, its weight is recorded
 abbrev pub told_weight : Form → Slots → Divisor → List Instr
 told_weight f x d = if is_none x.minima then weigh f x (rounding_of d) else []
 

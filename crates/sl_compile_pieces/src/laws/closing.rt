@@ -2,7 +2,7 @@
 
 ghost use Rattle.sl_compile_pieces.specs.closing.Closing.{ClosingsAchieve};
 
-/// The plans of a typed book's last clause come to the table that it means after its stages, or end the run with the first tie.
+/// The plans of a typed book's last clause yield the table that it means after its stages, or end the run with the first tie.
 pub fn closings_achieve()
     ensures { ClosingsAchieve }
 {}

@@ -1,26 +1,12 @@
 //! What may stand at a place of a rulebook: the tokens with which a book may go on there.
 
 use crate::pieces::{piece, span_within};
-use sl_explain_texts::{Message, Speaker};
+use crate::texts::{NAME_WORD, NUMBER_WORD, TEXT_WORD};
+use sl_explain_texts::Speaker;
 use sl_lex::{KEYWORDS, Mark, Token};
 use sl_parse::{Sort, begins_book};
 use sl_ratio::NoMemory;
 use std::alloc::Global;
-
-const NUMBER: Message = Message {
-    english: "a number",
-    german: "eine Zahl",
-};
-
-const TEXT: Message = Message {
-    english: "a text in quotes",
-    german: "ein Text in Anführungszeichen",
-};
-
-const NAME: Message = Message {
-    english: "a name",
-    german: "ein Name",
-};
 
 // The sorts that a sentence names before the keywords.
 static FIRST: [Sort; 8] = [
@@ -91,7 +77,7 @@ pub fn expected(
 // The word that a sort of tokens is, if it is one.
 fn word_of(sort: Sort) -> Option<&'static [u8]> {
     match sort {
-        Sort::Keyword(keyword) => Some(keyword.spelling()),
+        Sort::Keyword(keyword) => Some(keyword.spelling().as_bytes()),
         Sort::Vacate => Some(b"vacate"),
         Sort::Mark(_) | Sort::Number | Sort::Text | Sort::Name => None,
     }
@@ -100,11 +86,11 @@ fn word_of(sort: Sort) -> Option<&'static [u8]> {
 // A sort of tokens as a sentence speaks of it.
 fn said(speaker: Speaker, sort: Sort) -> Result<Vec<u8>, NoMemory> {
     match sort {
-        Sort::Keyword(keyword) => speaker.quoted(keyword.spelling()),
+        Sort::Keyword(keyword) => speaker.quoted(keyword.spelling().as_bytes()),
         Sort::Mark(mark) => speaker.quoted(mark.sign()),
-        Sort::Number => speaker.text(&NUMBER, &[]),
-        Sort::Text => speaker.text(&TEXT, &[]),
-        Sort::Name => speaker.text(&NAME, &[]),
+        Sort::Number => speaker.text(&NUMBER_WORD, &[]),
+        Sort::Text => speaker.text(&TEXT_WORD, &[]),
+        Sort::Name => speaker.text(&NAME_WORD, &[]),
         Sort::Vacate => speaker.quoted(b"vacate"),
     }
 }

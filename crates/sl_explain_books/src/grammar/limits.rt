@@ -4,56 +4,15 @@ ghost use Rattle.std.specs.Prelude.{◌≡◌, IfOk, Some};
 ghost use Rattle.sl_explain_texts.specs.declared.code.FaultCode.TheVariants.{B02, B07, B08, B09};
 
 use crate::pieces::token_span;
+use crate::texts::{
+    LONG_BOOK, LONG_BOOK_REMEDY, NO_ROOM, PARTS_REMEDY, STAGES_REMEDY, TOO_DEEP, TOO_MANY_PARTS,
+    TOO_MANY_STAGES,
+};
 use sl_explain_texts::{Explanation, FaultCode, Language, Message, Sentence, Span, Speaker};
 use sl_lex::{Keyword, Kind, Mark, Token};
 use sl_ratio::NoMemory;
 use sl_stages::{MAX_DEPTH, MAX_PARTS, MAX_STAGES};
 use std::alloc::Global;
-
-const LONG_BOOK: Sentence = Sentence {
-    code: FaultCode::B02,
-    english: "the rulebook has more than 65,536 bytes",
-    german: "das Regelwerk hat mehr als 65.536 Bytes",
-};
-
-const LONG_BOOK_REMEDY: Message = Message {
-    english: "is it the right file? A rulebook has some 1,000 bytes; long comments can be cut",
-    german: "ist es die richtige Datei? Ein Regelwerk hat etwa 1.000 Bytes; lange Kommentare lassen sich kürzen",
-};
-
-const TOO_DEEP: Sentence = Sentence {
-    code: FaultCode::B08,
-    english: "this expression lies at level $, and a stage has at most $ levels",
-    german: "dieser Ausdruck liegt auf Ebene $, und eine Stufe hat höchstens $ Ebenen",
-};
-
-const TOO_MANY_PARTS: Sentence = Sentence {
-    code: FaultCode::B08,
-    english: "a stage has at most $ expressions, each one inside another counted, and this is one more",
-    german: "eine Stufe hat höchstens $ Ausdrücke, jeder in einem anderen mitgezählt, und dieser ist einer mehr",
-};
-
-const PARTS_REMEDY: Message = Message {
-    english: "make stages of parts of the expression, above this stage: `stage part = ..;`, and write `part` here",
-    german: "aus Teilen des Ausdrucks Stufen machen, über dieser Stufe: `stage part = ..;`, und hier `part` schreiben",
-};
-
-const NO_ROOM: Sentence = Sentence {
-    code: FaultCode::B07,
-    english: "an expression is missing here, and its stage has no room for one more: it has at most $ levels and $ expressions",
-    german: "hier fehlt ein Ausdruck, und seine Stufe hat keinen Platz mehr dafür: sie hat höchstens $ Ebenen und $ Ausdrücke",
-};
-
-const TOO_MANY_STAGES: Sentence = Sentence {
-    code: FaultCode::B09,
-    english: "a rulebook has at most $ stages, and this is one more",
-    german: "ein Regelwerk hat höchstens $ Stufen, und diese ist eine mehr",
-};
-
-const STAGES_REMEDY: Message = Message {
-    english: "write the expression of a stage that is named only once in the place of its name",
-    german: "den Ausdruck einer Stufe, die nur einmal genannt wird, an die Stelle ihres Namens schreiben",
-};
 
 /// Explains a book that has too many bytes.
 pub fn explain_long_book(alloc: Global, language: Language) -> Result<Explanation, NoMemory>

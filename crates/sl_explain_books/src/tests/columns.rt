@@ -1,50 +1,13 @@
 //! What the columns of stages and of expressions have.
 
+use crate::texts::{
+    LAND_SEATS, LAND_VOTES, LIST_SEATS, LIST_VOTES, ONE_SEATS, ONE_VOTES, PARTY_SEATS, PARTY_VOTES,
+};
 use sl_check::Columns;
-use sl_explain_texts::{Message, Speaker};
+use sl_explain_texts::Speaker;
 use sl_ratio::NoMemory;
 use sl_stages::{ColumnType, Shape, Stage, Unit};
 use std::alloc::Global;
-
-const ONE_SEATS: Message = Message {
-    english: "a single number of seats",
-    german: "eine einzelne Zahl von Sitzen",
-};
-
-const PARTY_SEATS: Message = Message {
-    english: "seats for each party",
-    german: "Sitze je Partei",
-};
-
-const LAND_SEATS: Message = Message {
-    english: "seats for each Land",
-    german: "Sitze je Land",
-};
-
-const LIST_SEATS: Message = Message {
-    english: "seats for each list",
-    german: "Sitze je Liste",
-};
-
-const ONE_VOTES: Message = Message {
-    english: "a single number of votes",
-    german: "eine einzelne Zahl von Stimmen",
-};
-
-const PARTY_VOTES: Message = Message {
-    english: "votes for each party",
-    german: "Stimmen je Partei",
-};
-
-const LAND_VOTES: Message = Message {
-    english: "votes (or people) for each Land",
-    german: "Stimmen (oder Einwohner) je Land",
-};
-
-const LIST_VOTES: Message = Message {
-    english: "votes for each list",
-    german: "Stimmen je Liste",
-};
 
 /// What a column has, in words.
 pub fn column_words(speaker: Speaker, column: ColumnType) -> &'static [u8] {

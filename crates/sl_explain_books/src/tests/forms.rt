@@ -8,77 +8,15 @@ use super::divisions::explain_division;
 use super::names::{above, around, named};
 use super::node::{Node, node_at};
 use crate::pieces::{line_number, piece, token_span};
+use crate::texts::{
+    MADE, NOT_FITTING, PAIR, PAIR_ALL, PAIR_SUM_FIRST, PAIR_SUM_SECOND, PAIR_UNIT_REMEDY, SUM_AXIS,
+    SUM_AXIS_REMEDY, SUM_ONE, SUM_ONE_REMEDY, TWO_SPLITS, TWO_SPLITS_REMEDY,
+};
 use sl_check::Columns;
 use sl_explain_texts::{Explanation, FaultCode, Message, Sentence, Span, Speaker};
 use sl_parse::{axis_keyword, pairing_keyword};
 use sl_ratio::NoMemory;
 use sl_stages::{Axis, Book, ColumnType, Shape, Stage};
-
-const NOT_FITTING: Message = Message {
-    english: "the arguments of `$` do not fit",
-    german: "die Argumente von `$` passen nicht zusammen",
-};
-
-const MADE: Message = Message {
-    english: "the stage `$` stands in line $",
-    german: "die Stufe `$` steht in Zeile $",
-};
-
-const TWO_SPLITS: Sentence = Sentence {
-    code: FaultCode::B18,
-    english: "the stage `$` has more than one `split` or `grow`, and a stage may have one",
-    german: "die Stufe `$` hat mehr als ein `split` oder `grow`, und eine Stufe darf nur eines haben",
-};
-
-const TWO_SPLITS_REMEDY: Message = Message {
-    english: "make a stage of the inner one, above this stage, as in `stage parties = split(..);`, and write `parties` in its place",
-    german: "aus dem inneren eine eigene Stufe machen, über dieser, etwa `stage parties = split(..);`, und an seiner Stelle `parties` schreiben",
-};
-
-const SUM_ONE: Message = Message {
-    english: "`sum` adds up the numbers of a column, and its argument is $",
-    german: "`sum` zählt die Zahlen einer Spalte zusammen, und sein Argument ist $",
-};
-
-const SUM_ONE_REMEDY: Message = Message {
-    english: "remove `sum`, and write its argument alone",
-    german: "`sum` weglassen, und sein Argument allein schreiben",
-};
-
-const SUM_AXIS: Message = Message {
-    english: "`sum(.., $)` adds up numbers of lists, and its argument has $",
-    german: "`sum(.., $)` zählt Zahlen von Listen zusammen, und sein Argument hat $",
-};
-
-const SUM_AXIS_REMEDY: Message = Message {
-    english: "write `sum(.., all)` for the sum of all of them, or remove `sum`",
-    german: "für die Summe über alle `sum(.., all)` schreiben, oder `sum` weglassen",
-};
-
-const PAIR: Message = Message {
-    english: "`$` takes two columns of one kind; the first has $, the second $",
-    german: "`$` nimmt zwei Spalten derselben Art; die erste hat $, die zweite $",
-};
-
-const PAIR_UNIT_REMEDY: Message = Message {
-    english: "seats go with seats, and votes with votes",
-    german: "Sitze gehören zu Sitzen, und Stimmen zu Stimmen",
-};
-
-const PAIR_SUM_FIRST: Message = Message {
-    english: "write `sum(.., $)` around the first argument, so that both have the same shape",
-    german: "das erste Argument in `sum(.., $)` setzen, dann haben beide dieselbe Form",
-};
-
-const PAIR_SUM_SECOND: Message = Message {
-    english: "write `sum(.., $)` around the second argument, so that both have the same shape",
-    german: "das zweite Argument in `sum(.., $)` setzen, dann haben beide dieselbe Form",
-};
-
-const PAIR_ALL: Message = Message {
-    english: "write `sum(.., all)` around each of them, so that both are a single number",
-    german: "jedes der beiden in `sum(.., all)` setzen, dann sind beide eine einzelne Zahl",
-};
 
 /// More than one split or growth in a stage.
 pub fn explain_two_splits(speaker: Speaker, text: &[u8], at: usize) -> Result<Explanation, NoMemory>
@@ -107,7 +45,7 @@ pub fn summed(shape: Shape) -> &'static [u8] {
         Shape::Land => Axis::Land,
         Shape::One | Shape::List => Axis::All,
     };
-    axis_keyword(axis).spelling()
+    axis_keyword(axis).spelling().as_bytes()
 }
 
 /// Whether `sum` makes the second shape of the first.
@@ -135,7 +73,7 @@ fn explain_sum(
         return speaker.explains_at(&sentence, &[words], span, &[&SUM_ONE_REMEDY]);
     }
     let sentence = SUM_AXIS.of_fault(code);
-    let values = [axis_keyword(over).spelling(), words];
+    let values = [axis_keyword(over).spelling().as_bytes(), words];
     speaker.explains_at(&sentence, &values, span, &[&SUM_AXIS_REMEDY])
 }
 
@@ -189,7 +127,7 @@ fn explain_node(
             ..
         } => {
             let sentence = PAIR.of_fault(code);
-            let form = pairing_keyword(pairing).spelling();
+            let form = pairing_keyword(pairing).spelling().as_bytes();
             let remedy = pair_remedy(left, right);
             explain_arguments(speaker, span, &sentence, form, (left, right), remedy)
         }

@@ -8,97 +8,14 @@ ghost use Rattle.sl_stages.specs.book.Trees.{stage_of};
 use super::columns::{column_words, types_of};
 use crate::near::{columns_of_returns, help_nearest_stage, help_stages};
 use crate::pieces::{line_number, piece, token_span};
+use crate::texts::{
+    EARLIER, FACTS, ITSELF, ITSELF_REMEDY, LAST_CLAUSE_SEATS, LATER, LATER_REMEDY, NO_EARLIER,
+    NO_SEATS, SEATS_FITTING, SEATS_SPLIT, SEATS_VOTES, TWICE, TWICE_REMEDY, UNKNOWN, UNKNOWN_BASE,
+};
 use sl_check::Columns;
 use sl_explain_texts::{Explanation, FaultCode, Message, Sentence, Span, Speaker};
 use sl_ratio::NoMemory;
 use sl_stages::{Base, Book, ColumnType, Shape, Stage, Unit};
-
-const TWICE: Sentence = Sentence {
-    code: FaultCode::B14,
-    english: "two stages have the name `$`; the first one stands in line $",
-    german: "zwei Stufen heißen `$`; die erste steht in Zeile $",
-};
-
-const TWICE_REMEDY: Message = Message {
-    english: "give this stage another name, and write it where this one is meant further down",
-    german: "dieser Stufe einen anderen Namen geben, und ihn auch weiter unten schreiben, wo sie gemeint ist",
-};
-
-const ITSELF: Sentence = Sentence {
-    code: FaultCode::B15,
-    english: "the stage `$` is named in its own expression",
-    german: "die Stufe `$` wird in ihrem eigenen Ausdruck genannt",
-};
-
-const LATER: Sentence = Sentence {
-    code: FaultCode::B15,
-    english: "the stage `$` is named before it is given: it stands further down, in line $",
-    german: "die Stufe `$` wird genannt, bevor sie angegeben ist: sie steht weiter unten, in Zeile $",
-};
-
-const ITSELF_REMEDY: Message = Message {
-    english: "an expression names columns of the returns, and stages above its own",
-    german: "ein Ausdruck nennt Spalten der Wahlergebnisse, und Stufen über seiner eigenen",
-};
-
-const LATER_REMEDY: Message = Message {
-    english: "an expression names stages above its own alone: change their order",
-    german: "ein Ausdruck nennt nur Stufen über seiner eigenen: die Reihenfolge ändern",
-};
-
-const UNKNOWN: Sentence = Sentence {
-    code: FaultCode::B15,
-    english: "there is no stage and no column `$`",
-    german: "es gibt keine Stufe und keine Spalte `$`",
-};
-
-const UNKNOWN_BASE: Sentence = Sentence {
-    code: FaultCode::B15,
-    english: "the last clause names the stage `$`, and there is none of that name",
-    german: "die letzte Klausel nennt die Stufe `$`, und es gibt keine dieses Namens",
-};
-
-const EARLIER: Message = Message {
-    english: "the stages above are $",
-    german: "die Stufen darüber sind $",
-};
-
-const NO_EARLIER: Message = Message {
-    english: "no stage stands above",
-    german: "darüber steht keine Stufe",
-};
-
-const FACTS: Message = Message {
-    english: "the columns of the returns are $",
-    german: "die Spalten der Wahlergebnisse sind $",
-};
-
-const SEATS: Sentence = Sentence {
-    code: FaultCode::B21,
-    english: "the last clause needs a stage with seats for each list, and `$` has $",
-    german: "die letzte Klausel braucht eine Stufe mit Sitzen je Liste, und `$` hat $",
-};
-
-const NO_SEATS: Sentence = Sentence {
-    code: FaultCode::B21,
-    english: "the last clause needs a stage with seats for each list, and `$` has none",
-    german: "die letzte Klausel braucht eine Stufe mit Sitzen je Liste, und `$` hat keine",
-};
-
-const SEATS_FITTING: Message = Message {
-    english: "stages that have seats for each list: $",
-    german: "Stufen, die Sitze je Liste haben: $",
-};
-
-const SEATS_SPLIT: Message = Message {
-    english: "distribute these seats among the lists by one more stage, `stage lists = split($, counted, webster);`, and name it: `seats lists ..`",
-    german: "diese Sitze durch eine weitere Stufe auf die Listen verteilen, `stage lists = split($, counted, webster);`, und sie nennen: `seats lists ..`",
-};
-
-const SEATS_VOTES: Message = Message {
-    english: "votes are no seats: distribute seats by votes, as in `stage lists = split(house, counted, webster);`, and name that stage: `seats lists ..`",
-    german: "Stimmen sind keine Sitze: Sitze nach Stimmen verteilen, wie in `stage lists = split(house, counted, webster);`, und diese Stufe nennen: `seats lists ..`",
-};
 
 // How many stages begin before an offset.
 fn stages_before(stages: &[Stage], at: usize) -> usize {
@@ -304,7 +221,7 @@ fn say_column<'a>(
 ) -> Result<Explanation, NoMemory>
     ensures { IfOk result (λ x. x.code ≡ Some B21) }
 {
-    speaker.says_at(&SEATS, &[name, words], span)
+    speaker.says_at(&LAST_CLAUSE_SEATS, &[name, words], span)
 }
 
 // The last clause names a stage that has this column.

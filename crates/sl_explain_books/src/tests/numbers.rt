@@ -4,86 +4,13 @@ ghost use Rattle.std.specs.Prelude.{◌≡◌, IfOk, Some};
 ghost use Rattle.sl_explain_texts.specs.declared.code.FaultCode.TheVariants.{B11, B13};
 
 use crate::pieces::{piece, token_span};
+use crate::texts::{
+    NO_VERSION, SHARE_MORE, SHARE_MORE_REMEDY, SHARE_PARTS, SHARE_PARTS_REMEDY, SHARE_ZERO,
+    SHARE_ZERO_REMEDY, VACATE, VACATE_REMEDY, VERSIONS,
+};
 use sl_explain_texts::{Explanation, FaultCode, Message, Sentence, Span, Speaker};
 use sl_ratio::NoMemory;
 use sl_stages::{Book, Cond, MAX_PER, MAX_SEATS};
-
-const NO_VERSION: Sentence = Sentence {
-    code: FaultCode::B11,
-    english: "the language has the versions 1 and 2, and no version $",
-    german: "die Sprache hat die Versionen 1 und 2, aber keine Version $",
-};
-
-const VERSIONS: Message = Message {
-    english: "write `rulebook 1;`, or `rulebook 2;` if the last clause has `vacate`",
-    german: "`rulebook 1;` schreiben, oder `rulebook 2;`, wenn die letzte Klausel `vacate` hat",
-};
-
-const VACATE: Sentence = Sentence {
-    code: FaultCode::B11,
-    english: "`vacate` came with version 2 of the language, and this book is written in version $",
-    german: "`vacate` gibt es erst in Version 2 der Sprache, und dieses Regelwerk ist in Version $ geschrieben",
-};
-
-const VACATE_REMEDY: Message = Message {
-    english: "write `rulebook 2;` in the first clause, or remove `vacate`",
-    german: "in der ersten Klausel `rulebook 2;` schreiben, oder `vacate` weglassen",
-};
-
-pub const HOUSE: Sentence = Sentence {
-    code: FaultCode::B12,
-    english: "a house has from 1 to $ seats, not $",
-    german: "ein Haus hat 1 bis $ Sitze, nicht $",
-};
-
-pub const HOUSE_REMEDY: Message = Message {
-    english: "write the number of seats to be distributed, such as `house 630;`",
-    german: "die Zahl der Sitze schreiben, die zu vergeben sind, etwa `house 630;`",
-};
-
-const SHARE_ZERO: Sentence = Sentence {
-    code: FaultCode::B13,
-    english: "a threshold of $ per $ keeps nobody out; the first number is at least 1",
-    german: "eine Schwelle von $ per $ hält niemanden ab; die erste Zahl ist mindestens 1",
-};
-
-const SHARE_ZERO_REMEDY: Message = Message {
-    english: "for a book without a threshold write `eligible all;`",
-    german: "für ein Regelwerk ohne Schwelle `eligible all;` schreiben",
-};
-
-const SHARE_MORE: Sentence = Sentence {
-    code: FaultCode::B13,
-    english: "a threshold of $ per $ is more than all votes",
-    german: "eine Schwelle von $ per $ ist mehr als alle Stimmen",
-};
-
-const SHARE_MORE_REMEDY: Message = Message {
-    english: "the first number is at most the second: `5 per 100` is 5 percent",
-    german: "die erste Zahl ist höchstens so groß wie die zweite: `5 per 100` sind 5 Prozent",
-};
-
-const SHARE_PARTS: Sentence = Sentence {
-    code: FaultCode::B13,
-    english: "a threshold of $ per $ is too fine: the second number is at most $",
-    german: "eine Schwelle von $ per $ hat zu kleine Teile: die zweite Zahl ist höchstens $",
-};
-
-const SHARE_PARTS_REMEDY: Message = Message {
-    english: "write the threshold in tenths of a percent: `45 per 1000` is 4.5 percent",
-    german: "die Schwelle in Zehntelprozent schreiben: `45 per 1000` sind 4,5 Prozent",
-};
-
-pub const CAP: Sentence = Sentence {
-    code: FaultCode::B20,
-    english: "the cap of a growth is from 1 to $ seats, not $",
-    german: "die Obergrenze eines Wachstums (`grow`) ist 1 bis $ Sitze, nicht $",
-};
-
-pub const CAP_REMEDY: Message = Message {
-    english: "write the greatest house that may be looked for, such as 4000",
-    german: "das größte Haus schreiben, das gesucht werden darf, etwa 4000",
-};
 
 /// A version that does not exist, or `vacate` in the first one.
 pub fn explain_version(

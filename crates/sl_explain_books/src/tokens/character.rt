@@ -3,142 +3,15 @@
 ghost use Rattle.std.specs.Prelude.{◌≡◌, IfOk, Some};
 ghost use Rattle.sl_explain_texts.specs.declared.code.FaultCode.TheVariants.{B03, B04};
 
-use crate::meant::{METHOD, method_of};
+use crate::meant::method_of;
 use crate::pieces::{character_len, piece, span_within};
+use crate::texts::{
+    ARITHMETIC, AT_SIGN, BLANK, BRACKETS, BYTE_IN_TEXT, COLON, COMMENT, COMPARED, CONTROL,
+    ENCODING, HYPHEN, IN_TEXT, INVISIBLE, LETTER, METHOD, NO_CHARACTER, NO_LETTER, PERCENT, PLAIN,
+    POINT, QUOTES, RIGHT_FILE, TEXT_LETTER, TEXT_PLAIN, UNDERSCORE, UNEXPECTED,
+};
 use sl_explain_texts::{Explanation, FaultCode, Message, Sentence, Span, Speaker};
 use sl_ratio::NoMemory;
-
-const UNEXPECTED: Sentence = Sentence {
-    code: FaultCode::B03,
-    english: "a rulebook has no `$` outside of comments and quotes",
-    german: "ein Regelwerk hat kein `$` außerhalb von Kommentaren und Anführungszeichen",
-};
-
-const NO_LETTER: Sentence = Sentence {
-    code: FaultCode::B03,
-    english: "the character `$` may stand in comments alone",
-    german: "das Zeichen `$` darf nur in Kommentaren stehen",
-};
-
-const NO_CHARACTER: Sentence = Sentence {
-    code: FaultCode::B03,
-    english: "a byte stands here that is no character of UTF-8: $",
-    german: "hier steht ein Byte, das in UTF-8 kein Zeichen ist: $",
-};
-
-const CONTROL: Sentence = Sentence {
-    code: FaultCode::B03,
-    english: "a control character stands here: the byte $",
-    german: "hier steht ein Steuerzeichen: das Byte $",
-};
-
-const INVISIBLE: Sentence = Sentence {
-    code: FaultCode::B03,
-    english: "a special blank stands here, which looks like a space or like nothing",
-    german: "hier steht ein besonderer Leerraum, der wie ein Leerzeichen oder wie nichts aussieht",
-};
-
-const BEGINNING: Message = Message {
-    english: "a rulebook begins with `rulebook 1;`: is it the right file?",
-    german: "ein Regelwerk beginnt mit `rulebook 1;`: ist es die richtige Datei?",
-};
-
-const PERCENT: Message = Message {
-    english: "write 5 percent as `5 per 100`, and 4.5 percent as `45 per 1000`",
-    german: "5 Prozent als `5 per 100` schreiben, und 4,5 Prozent als `45 per 1000`",
-};
-
-const POINT: Message = Message {
-    english: "numbers are whole: 4.5 percent is `45 per 1000`, and 1,000 is `1000`",
-    german: "Zahlen sind ganz: 4,5 Prozent sind `45 per 1000`, und 1.000 ist `1000`",
-};
-
-const HYPHEN: Message = Message {
-    english: "a name has letters, digits and `_`: write `_` in place of `-`; the difference of two columns is `less(.., ..)`",
-    german: "ein Name hat Buchstaben, Ziffern und `_`: `_` statt `-` schreiben; die Differenz zweier Spalten ist `less(.., ..)`",
-};
-
-const COMMENT: Message = Message {
-    english: "a comment begins with `#` and goes to the end of its line",
-    german: "ein Kommentar beginnt mit `#` und geht bis zum Ende seiner Zeile",
-};
-
-const ARITHMETIC: Message = Message {
-    english: "there are no sums and products by marks: see `sum(.., all)`, `less(.., ..)`, `larger(.., ..)`; a comment begins with `#`",
-    german: "Summen und Produkte gibt es nicht als Zeichen: siehe `sum(.., all)`, `less(.., ..)`, `larger(.., ..)`; ein Kommentar beginnt mit `#`",
-};
-
-const QUOTES: Message = Message {
-    english: "the name of the law stands in straight double quotes: `law \"My law\";`",
-    german: "der Name des Gesetzes steht in geraden doppelten Anführungszeichen: `law \"Mein Gesetz\";`",
-};
-
-const COMPARED: Message = Message {
-    english: "thresholds are written in words: `valid at least 5 per 100`, `winners at least 3`",
-    german: "Schwellen werden in Wörtern geschrieben: `valid at least 5 per 100`, `winners at least 3`",
-};
-
-const COLON: Message = Message {
-    english: "a clause ends with `;`, and a stage is `stage NAME = ..;`",
-    german: "eine Klausel endet mit `;`, und eine Stufe ist `stage NAME = ..;`",
-};
-
-const BRACKETS: Message = Message {
-    english: "there are round parentheses alone, `(` and `)`",
-    german: "es gibt nur runde Klammern, `(` und `)`",
-};
-
-const UNDERSCORE: Message = Message {
-    english: "a name begins with a letter",
-    german: "ein Name beginnt mit einem Buchstaben",
-};
-
-const AT_SIGN: Message = Message {
-    english: "`@` stands before the name of a library's book in a command, and not in a rulebook",
-    german: "`@` steht auf der Befehlszeile vor dem Namen eines Regelwerks der Bibliothek, und nicht in einem Regelwerk",
-};
-
-const LETTER: Message = Message {
-    english: "write letters from A to Z: `Thueringen` for `Thüringen`",
-    german: "Buchstaben von A bis Z schreiben: `Thueringen` für `Thüringen`",
-};
-
-const PLAIN: Message = Message {
-    english: "delete it; names have letters from A to Z, digits and `_`, and the marks are `;`, `=`, `,`, `(` and `)`",
-    german: "es löschen; Namen haben Buchstaben von A bis Z, Ziffern und `_`, und die Zeichen sind `;`, `=`, `,`, `(` und `)`",
-};
-
-const ENCODING: Message = Message {
-    english: "save the file in UTF-8, and write letters from A to Z outside of comments",
-    german: "die Datei in UTF-8 speichern, und außerhalb von Kommentaren Buchstaben von A bis Z schreiben",
-};
-
-const BLANK: Message = Message {
-    english: "delete it, and type a space or a new line in its place",
-    german: "ihn löschen, und an seiner Stelle ein Leerzeichen oder einen Zeilenwechsel tippen",
-};
-
-const IN_TEXT: Sentence = Sentence {
-    code: FaultCode::B04,
-    english: "the character `$` may not stand in a text in quotes",
-    german: "das Zeichen `$` darf nicht in einem Text in Anführungszeichen stehen",
-};
-
-const BYTE_IN_TEXT: Sentence = Sentence {
-    code: FaultCode::B04,
-    english: "a text in quotes has printable characters of ASCII, and not the byte $",
-    german: "ein Text in Anführungszeichen hat druckbare Zeichen von ASCII, und nicht das Byte $",
-};
-
-const TEXT_LETTER: Message = Message {
-    english: "write letters from A to Z: `fuer` for `für`; other letters may stand in comments, after `#`",
-    german: "Buchstaben von A bis Z schreiben: `fuer` für `für`; andere Buchstaben dürfen in Kommentaren stehen, hinter `#`",
-};
-
-const TEXT_PLAIN: Message = Message {
-    english: "write a space or letters from A to Z in its place",
-    german: "an seiner Stelle ein Leerzeichen oder Buchstaben von A bis Z schreiben",
-};
 
 // The letters that stand just before an offset.
 fn letters_before(text: &[u8], at: usize) -> &[u8] {
@@ -164,7 +37,7 @@ fn parted_method(text: &[u8], at: usize) -> Option<&'static [u8]> {
 // What to do about a character of ASCII.
 fn ascii_remedy(byte: u8, next: u8, at: usize) -> &'static Message {
     match byte {
-        b'<' | b'>' | b'{' | b'[' | b'%' | b'.' if at == 0 => &BEGINNING,
+        b'<' | b'>' | b'{' | b'[' | b'%' | b'.' if at == 0 => &RIGHT_FILE,
         b'%' => &PERCENT,
         b'.' => &POINT,
         b'/' if next == b'/' || next == b'*' => &COMMENT,

@@ -31,12 +31,12 @@ pub fn cover_seats_largest()
     ensures { CoverSeatsLargest }
 {}
 
-/// A split that comes to a column distributes in each of its scopes just the amount of the scope.
+/// A split that yields a column distributes in each of its scopes just the amount of the scope.
 pub fn splits_give_the_amount()
     ensures { SplitsGiveTheAmount }
 {}
 
-/// A growth that comes to a column distributes at least its amount, and no more than the cap.
+/// A growth that yields a column distributes at least its amount, and no more than the cap.
 pub fn growths_give_the_amount()
     ensures { GrowthsGiveTheAmount }
 {}

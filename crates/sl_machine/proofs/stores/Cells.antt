@@ -7,7 +7,7 @@ use Rattle.std.proofs.lemmas.Option.{slice_get_within, get_or_from_slice_get}
 use Rattle.sl_code_semantics.specs.State.{State}
 use Rattle.sl_code_semantics.specs.Effects.{Effect, given}
 
--- the cell that is told of a place in a slot's column
+-- the cell that is recorded of a place in a slot's column
 abbrev pub cell_in : List (List ℕ) → ℕ → ℕ → ℕ
 cell_in css k p = get_or (get_or css k []) p 0
 
@@ -23,7 +23,7 @@ widths_set : (css : List (List ℕ)) (k : ℕ) (xs : List ℕ) → k < length cs
 widths_set css k xs h e =
     map-set length css k xs ∙ ap (λ (n : ℕ). set (map length css) k n) e ∙ set-get_or (map length css) k 0
 
--- where there is one, what is told of none does not matter
+-- where there is one, what is recorded of none does not matter
 same_within : (css : List (List ℕ)) (k : ℕ) (xs ys : List ℕ) → k < length css → get_or css k xs ≡ get_or css k ys
 same_within css k xs ys h = grind (arith, common_steps)
 

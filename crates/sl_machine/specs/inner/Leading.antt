@@ -31,16 +31,16 @@ EndsAt c p = ForSome (slice_get c.instrs p) (λ i. IsTrue (ends_run i))
 abbrev pub LeadsTo : Records → CountingCode → Election → ℕ → State → ℕ → ℕ → State → Type 0
 LeadsTo k c e p s n q t = IsSafe c e q t × (state_by k t ≡ t) × ((left : ℕ) → ending_by k (run c e left p s) ≡ ending_by k (run c e (left - n) q t))
 
--- it comes to an end that fits
+-- it ends in a way that fits
 abbrev pub EndsWith : Records → CountingCode → Election → ℕ → State → End → State → Type 0
 EndsWith k c e p s end t = FitsEnd c e (end_with end t) × ((n : ℕ) → ending_by k (run c e (suc n) p s) ≡ Ended (end_with end t))
 
--- how steps end that come to a state
+-- how steps end that reach a state
 abbrev pub ending_with : Option End → State → Ending
 ending_with None s = OutOfBudget
 ending_with (Some end) s = Ended (end_with end s)
 
--- an end that they come to fits
+-- an end that they reach fits
 abbrev pub FitsWith : CountingCode → Election → Option End → State → Type 0
 FitsWith c e None s = Unit {0}
 FitsWith c e (Some end) s = FitsEnd c e (end_with end s)

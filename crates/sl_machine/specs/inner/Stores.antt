@@ -17,7 +17,7 @@ use Rattle.sl_machine.specs.inner.Lots.{StageLots, lots_for}
 abbrev pub columns_of : Store → List (List ℕ)
 columns_of s = s.columns.items
 
--- the state that a store stands for: what is told of no register, no cell and no winner is 0, and unseated
+-- the state that a store stands for: what is recorded of no register, no cell and no winner is 0, and unseated
 abbrev pub state_of : Store → State
 state_of s = record {
   registers = λ r. slice_index s.registers r;

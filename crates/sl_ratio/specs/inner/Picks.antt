@@ -1,4 +1,4 @@
--- What a search among quotients keeps: the one found so far, or the one that it comes to.
+-- What a search among quotients keeps: the one found so far, or the one that it meets.
 use Rattle.std.specs.Prelude.{Option, Some, None, if◌then◌else◌}
 use Rattle.std.specs.Ordering.{is_le, is_ge}
 use Rattle.sl_ratio.specs.Quotient.{Quotient, compare}

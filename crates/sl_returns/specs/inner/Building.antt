@@ -10,7 +10,7 @@ use Rattle.sl_returns.specs.Headers.{version_of}
 use Rattle.sl_returns.specs.Records.{election_of_records}
 use Rattle.sl_returns.specs.Returns.{refusal_of, behind_header}
 
--- the election so far, the version that the header told, if there was one, the row of the last record, and the fault with which the builder has failed, if it has
+-- the election so far, the version that the header gave, if there was one, the row of the last record, and the fault with which the builder has failed, if it has
 pub record Building : Type 0 where
   pub election : Election
   pub version : Option Version

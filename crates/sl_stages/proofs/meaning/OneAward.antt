@@ -1,4 +1,4 @@
--- A split and a growth come to exactly one award in each scope.
+-- A split and a growth yield exactly one award in each scope.
 use Rattle.std.proofs.Common.{◌≡◌, ℕ, ◌≤◌, ◌&&◌, Bool, true, false, not, List, [], ◌∷◌, Some, None, length, sum, nat_lt, nat_eq, arith, refl, ap, subst, ◌∙◌, inl, inr}
 use Rattle.std.specs.Prelude.{if◌then◌else◌}
 use Rattle.std.proofs.lemmas.Bool.{ltb-false, and_cases, eq-eqb, eqb-false, both_ways, not-true}

@@ -1,4 +1,4 @@
--- A typed book comes to exactly one outcome on an election.
+-- A typed book yields exactly one outcome on an election.
 use Rattle.std.proofs.Common.{◌≡◌, ℕ, ◌<◌, ◌≤◌, Bool, true, List, [], ◌∷◌, ◌++◌, None, length, map, min, arith, refl, sym, ap, subst, ◌∙◌}
 use Rattle.std.specs.Prelude.{slice_get, filter_map, unwrap_or, option_map}
 use Rattle.std.specs.List.{All, zip, enumerate_from}

@@ -1,4 +1,4 @@
--- An expression of a typed book comes to exactly one result, and its stages to exactly one run.
+-- An expression of a typed book yields exactly one result, and its stages exactly one run.
 use Rattle.std.proofs.Common.{◌≡◌, ℕ, ◌&&◌, ◌||◌, true, false, not, List, [], ◌∷◌, Option, Some, None, length, refl, sym, ap, subst, ◌∙◌}
 use Rattle.std.specs.Prelude.{find, slice_index, option_map}
 use Rattle.std.specs.List.{AllZip, list_any}

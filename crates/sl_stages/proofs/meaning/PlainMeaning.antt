@@ -1,4 +1,4 @@
--- A plain book means the table that it comes to.
+-- A plain book means the table that it yields.
 use Rattle.std.proofs.Common.{◌≡◌, ℕ, ◌<◌, ◌&&◌, true, List, [], Option, Some, None, is_none, nat_eq, map, ◌↔◌, refl, sym, ap, subst, ◌∙◌}
 use Rattle.std.specs.Prelude.{IsPermutation}
 use Rattle.std.specs.List.{list_all}

@@ -1,4 +1,4 @@
--- Plain expressions and stages come to the columns that they are.
+-- Plain expressions and stages yield the columns that they are.
 use Rattle.std.proofs.Common.{◌≡◌, ℕ, true, List, [], ◌∷◌, ◌++◌, nat_eq, arith, refl, sym, ap, subst, ◌∙◌}
 use Rattle.std.specs.List.{list_all}
 use Rattle.std.proofs.lemmas.Bool.{and_parts, eqb-true}

@@ -1,4 +1,4 @@
--- How a value of `Cell` keeps what is told of a list, in three numbers.
+-- How a value of `Cell` keeps what is recorded of a list, in three numbers.
 use Rattle.std.proofs.Common.{◌≡◌, ℕ, Bool, true, false, Option, None, Some, nat_eq, refl, sym, if◌then◌else◌}
 use Rattle.std.specs.Option.{unwrap_or}
 use Rattle.std.proofs.lemmas.Bool.{eqb-true}
@@ -6,7 +6,7 @@ use Rattle.sl_stages.specs.declared.cell.TheConstants.{NONE}
 use Rattle.sl_stages.specs.declared.cell.Cell.TheInside.{Inside}
 use Rattle.sl_stages.specs.declared.returns.ListVotes.{ListVotes}
 
--- the names left, if they are told
+-- the names left, if they are given
 abbrev slate_told : ℕ → Option ℕ
 slate_told slate = if nat_eq slate NONE then None else Some slate
 

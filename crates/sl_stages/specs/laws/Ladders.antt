@@ -24,7 +24,7 @@ pub record AreFalling (l : Ladders) : Type 0 where
   pub no_gap : (i a : ℕ) → slice_index l.base i ≤ a → Has l i (a + 1) → Has l i a
   pub falls : (i a : ℕ) → slice_index l.base i ≤ a → Has l i (a + 1) → Below (l.rank i (a + 1)) (l.rank i a)
 
--- s has a number for each entry, at least its base, and no seat that there is not
+-- s has a number for each entry, at least its base, and no seat that does not exist
 pub record IsOn (l : Ladders) (s : List ℕ) : Type 0 where
   pub same_length : length s ≡ length l.base
   pub above : (i : ℕ) → slice_index l.base i ≤ slice_index s i

@@ -74,7 +74,7 @@ CoveredWinners =
     IsCovered b e base records (outcome.Table t) → (land party : ℕ) → IsListOf e land party →
     placed_on e t.placed land party ≡ min (list_cell e base land party) (list_cell e (list_winners b.eligible e) land party)
 
--- ---- a plain book means the table that it comes to, and nothing else
+-- ---- a plain book means the table that it yields, and nothing else
 
 abbrev pub PlainOutcomes : Type 0
 PlainOutcomes =

@@ -42,7 +42,7 @@ abbrev pub FullCoverings : Type 0
 FullCoverings =
     (first valid s : List ℕ) → IsCovering first valid (length first) s → (i : ℕ) → i < length first → slice_index s i ≡ 1
 
--- each growth comes to exactly one thing
+-- each growth yields exactly one thing
 abbrev pub Growths : Type 0
 Growths =
     (method : Divisor) (v m : List ℕ) (seats cap : ℕ) →

@@ -1,4 +1,4 @@
--- What comes to exactly one thing: the stages of a book, the scopes of a split and of a growth, the lists of covering
+-- What yields exactly one thing: the stages of a book, the scopes of a split and of a growth, the lists of covering
 -- (docs/meaning.md, section 10). Each law is the contract of a function of `laws::meaning`.
 use Rattle.std.specs.Prelude.{◌≡◌, ℕ, Bool, true, List, Option, Some, None}
 use Rattle.sl_ratio.specs.declared.method.Divisor.{Divisor}
@@ -20,7 +20,7 @@ pub record ExactlyOne {A : Type 0} (P : A → Type 0) : Type 0 where
   pub is : P one
   pub only : (x : A) → P x → x ≡ one
 
--- the stages of a typed book come to exactly one result
+-- the stages of a typed book yield exactly one result
 abbrev pub OneStagesResult : Type 0
 OneStagesResult = (b : BookTree) (e : Election) → is_typed b ≡ true → ExactlyOne (StagesMean b e nothing_known b.stages)
 
@@ -30,7 +30,7 @@ FitsMethod method None = Unit {0}
 FitsMethod (by.Divisor d) (Some m) = Unit {0}
 FitsMethod by.Hamilton (Some m) = ⊥
 
--- each scope of a split, and each of a growth, comes to exactly one award
+-- each scope of a split, and each of a growth, yields exactly one award
 abbrev pub OneSplitAward : Type 0
 OneSplitAward =
     (e : Election) (at : Stand) (amounts votes : List ℕ) (method : Method) (majority : Majority) (minima : Option (List ℕ)) → FitsMethod method minima →
@@ -41,7 +41,7 @@ OneGrowthAward =
     (e : Election) (at : Stand) (amounts votes : List ℕ) (d : Divisor) (majority : Majority) (minima : List ℕ) (cap : ℕ) →
     (g : Group) → ExactlyOne (IsGrowthIn e at amounts votes d majority minima cap g)
 
--- each list comes to exactly one choice between its winners, whoever is eligible
+-- each list yields exactly one choice between its winners, whoever is eligible
 abbrev pub OneSeating : Type 0
 OneSeating =
     (eligible : ℕ → Bool) (e : Election) → IsElection e → (base : List ℕ) (list : ℕ × ℕ) → ExactlyOne (IsSeating eligible e base list)

@@ -82,7 +82,7 @@ abbrev pub stand : Context → ExprTree → Stand
 stand c votes = record { stage = c.stage; name = c.name; shape = shape_in c votes }
 
 module _ (b : BookTree) (e : Election) (c : Context) where
-  -- a leaf comes to its column
+  -- a leaf yields its column
   abbrev pub IsLeafResult : ExprTree → ExprResult → Type 0
   IsLeafResult x r = (values : List ℕ) × IsLeaf b e c.columns x values × (r ≡ plain values)
 

@@ -60,7 +60,7 @@ StagesMean b e k (s ∷ ss) r =
 
 -- ---- outcomes
 
--- under `cover` each list, in list order, comes to a choice between its winners; the first tie is the outcome
+-- under `cover` each list, in list order, yields a choice between its winners; the first tie is the outcome
 pub record IsCovered (b : BookTree) (e : Election) (base : List ℕ) (records : Records) (o : Outcome) : Type 0 where
   pub choices : List Choice
   pub each : AllZip (IsSeating (is_eligible b.eligible e) e base) (lists_of e) choices

@@ -40,7 +40,7 @@ kept_lists b e column = each_list e (kept_list b e column)
 abbrev pub kept_table : BookTree → Election → List ℕ → SeatTable
 kept_table b e column = record { lists = kept_lists b e column; placed = map (kept_place b e) e.wins; steps = []; weights = [] }
 
--- the book comes to that table: there are columns of its stages and of its base
+-- the book yields that table: there are columns of its stages and of its base
 abbrev pub ComesTo : BookTree → Election → SeatTable → Type 0
 ComesTo b e t = (columns : List NamedColumn) × (column : List ℕ) × AreColumns b e [] b.stages columns × IsColumn b e columns (base_of b.last) column × (t ≡ kept_table b e column)
 
@@ -48,6 +48,6 @@ abbrev pub is_keep : Seating → Bool
 is_keep seating.Keep = true
 is_keep seating.Cover = false
 
--- a book without splits and growths whose winners are all kept, and no vacant seats are told
+-- a book without splits and growths whose winners are all kept, and no vacant seats are named
 abbrev pub is_plain : BookTree → Bool
 is_plain b = list_all (λ s. nat_eq (splits_in s.expr) 0) b.stages && is_keep b.last.seating && is_none b.last.vacate

@@ -58,6 +58,6 @@ module _ (stage : ℕ) (scope : Scope) (entries : List Item) where
   field_weights d v =
       map (λ x. record { stage = stage; scope = scope; entry = x.0; divisor = d; weight = x.1 }) (filter (λ x. nat_lt 0 x.1) (zip entries v))
 
--- the weights of a method are told where it rounds them by a divisor
+-- the weights of a method are recorded where it rounds them by a divisor
 abbrev pub tells_weights : Divisor → Bool
 tells_weights = is_rounding

@@ -47,7 +47,7 @@ pub record Stand : Type 0 where
 abbrev pub fault_at : ℕ → Scope → FaultKind → LegalFault
 fault_at n s k = record { stage = n; scope = s; kind = k }
 
--- the fault of a scope, if it comes to one
+-- the fault of a scope, if it ends in one
 abbrev pub fault_of : ℕ → Group × Award → Option LegalFault
 fault_of n x = in_scope x.1 where
   in_scope : Award → Option LegalFault
@@ -74,7 +74,7 @@ module _ (e : Election) (at : Stand) (amounts : List ℕ) where
         weights = flat_map (λ x. (records x.0 (awarded x.1)).weights) given;
       }))
 
-  -- each scope comes to an award, and these make the result
+  -- each scope yields an award, and these make the result
   pub record AreJoined (IsAward : Group → Award → Type 0) (records : Group → List ℕ → Records) (groups : List Group) (r : ExprResult) : Type 0 where
     pub awards : List Award
     pub each : AllZip IsAward groups awards

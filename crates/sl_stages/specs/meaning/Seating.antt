@@ -44,7 +44,7 @@ is_on placed.Unseated = false
 abbrev pub placed_on : Election → List Placed → ℕ → ℕ → ℕ
 placed_on e places land party = count_by (λ x. (is_in land x.0 && is_of party x.0) && is_on x.1) (zip e.wins places)
 
--- with `vacate`, the seats that neither the winners on the list nor the names left on it fill, where the names are told
+-- with `vacate`, the seats that neither the winners on the list nor the names left on it fill, where the names are given
 abbrev pub vacant_of : Option ℕ → Option ℕ → ℕ → ℕ → ℕ
 vacant_of (Some vacate) (Some names) seats direct = seats - direct - names
 vacant_of _ _ seats direct = 0

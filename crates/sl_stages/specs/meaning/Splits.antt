@@ -70,7 +70,7 @@ abbrev pub IsAllocation : Method → Majority → List ℕ → List ℕ → ℕ 
 IsAllocation (by.Divisor d) majority v m seats s = IsDivisorAllocation d v m seats s
 IsAllocation by.Hamilton majority v m seats s = IsHamiltonAllocation (is_prefer majority) v seats s
 
--- the split comes to that award: to the refusal, if there is one, and else to what is chosen among the allocations
+-- the split yields that award: the refusal, if there is one, and else what is chosen among the allocations
 abbrev pub IsSplitAward : Method → Majority → List Item → List ℕ → List ℕ → List ℕ → ℕ → Award → Type 0
 IsSplitAward method majority entries lot v m seats a =
     MatchOption (refusal v m seats)

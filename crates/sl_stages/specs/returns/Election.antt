@@ -15,7 +15,7 @@ pub record Election : Type 0 where
   pub house : Option ℕ
   pub land_names : List (List ℕ)
   pub populations : List ℕ
-  -- for each Land a row with a cell for each party that there may be: what is told of its list, if it has one
+  -- for each Land a row with a cell for each party that there may be: what is recorded of its list, if it has one
   pub cells : List (List (Option ListVotes))
   pub party_names : List (List ℕ)
   -- which parties are those of national minorities

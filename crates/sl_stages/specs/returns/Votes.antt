@@ -1,4 +1,4 @@
--- What is told of a list (docs/returns.md, section 2).
+-- What is recorded of a list (docs/returns.md, section 2).
 use Rattle.std.specs.Prelude.{ℕ, ◌≤◌, Option, Some, None}
 use Rattle.std.specs.Option.{ForSome}
 use Rattle.sl_ratio.specs.declared.limits.TheConstants.{MAX_VOTES}

@@ -14,18 +14,18 @@ pub fn at_most_one_outcome()
     ensures { AtMostOneOutcome }
 {}
 
-/// Its stages come to exactly one result: to their columns, or to the first fault.
+/// Its stages yield exactly one result: their columns, or the first fault.
 pub fn one_stages_result()
     ensures { OneStagesResult }
 {}
 
-/// Each scope of a split, and each of a growth, comes to exactly one award.
+/// Each scope of a split, and each of a growth, yields exactly one award.
 pub fn one_award()
     ensures splits { OneSplitAward }
     ensures growths { OneGrowthAward }
 {}
 
-/// Each list comes to exactly one choice between the winners whom it covers, whoever is eligible.
+/// Each list yields exactly one choice between the winners whom it covers, whoever is eligible.
 pub fn one_seating()
     ensures { OneSeating }
 {}

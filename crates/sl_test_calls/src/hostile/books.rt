@@ -47,7 +47,7 @@ impl Head {
     }
 }
 
-// Whether a line is this one, with a number behind it.
+// Whether a line is this one, with a number after it.
 fn is_line(alloc: Global, line: &[u8], start: &str, number: usize) -> bool {
     match format!(in alloc; "{start} {number}\n") {
         Ok(expected) => line == expected.as_bytes(),
@@ -127,7 +127,7 @@ fn first_cut_wrong_by_step(alloc: Global, row: &Row, book: &[u8]) -> Option<usiz
     None
 }
 
-// The same of a row, whose law of the library is told first.
+// The same of a row, whose law of the library is given first.
 fn first_row_cut_wrong(alloc: Global, row: &Row) -> Option<usize> {
     match row.call {
         Call::CountBy(law) => {

@@ -32,7 +32,7 @@ impl Worked {
         }
     }
 
-    // The calls of a reader of one byte until it has told the end of what is read first: none of a law.
+    // The calls of a reader of one byte until it has reported the end of what is read first: none of a law.
     fn first_reads(&self) -> usize {
         match self.call {
             Call::CountBy(_) => 0,
@@ -259,7 +259,7 @@ fn failing_files(rt: HostRuntime) {
     assert_none(&rt, first_file_wrong(rt.alloc(), file.as_slice()));
 }
 
-// Whether a listing is written up to a call at which it fails, beside the whole file.
+// Whether a listing is written up to a call at which it fails, in addition to the whole file.
 fn is_listing_cut(alloc: Global, listing: &[u8], file: &[u8], at: usize) -> bool {
     let (ending, taken) = coded(alloc, FIRST_BOOK.as_bytes(), failing_at(at));
     is_written(&ending, listing, at) && taken.as_slice() == file

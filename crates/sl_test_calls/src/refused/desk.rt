@@ -149,13 +149,13 @@ fn is_listed(alloc: Global, file: &mut Narrow) -> bool {
     }
 }
 
-// Whether a code file comes to the table of the first book.
+// Whether a code file yields the table of the first book.
 fn is_first(alloc: Global, file: &[u8]) -> bool {
     let ending = Call::Run.ending(alloc, file, FIRST_RETURNS.as_bytes(), Pace::of(STEP));
     ending.written.as_slice() == FIRST_TABLE.as_bytes()
 }
 
-// Whether the file of the first book is written, beside its listing.
+// Whether the file of the first book is written, in addition to its listing.
 fn is_file_written(alloc: Global) -> bool {
     match Narrow::with_room(alloc, ROOM) {
         Ok(mut file) => is_listed(alloc, &mut file) && is_first(alloc, file.taken.as_slice()),
@@ -163,7 +163,7 @@ fn is_file_written(alloc: Global) -> bool {
     }
 }
 
-// The written file of a book comes to its table.
+// The written file of a book yields its table.
 #[test]
 fn files(rt: HostRuntime) {
     assert!(rt; is_file_written(rt.alloc()));

@@ -180,7 +180,7 @@ fn answer(alloc: Global, code: &Verified, returns: &Returns, asked: Asked) -> Te
     }
 }
 
-// Whether the run of a code comes to a text.
+// Whether the run of a code yields a text.
 fn runs_to(alloc: Global, code: &Verified, returns: &Returns, asked: Asked, text: &[u8]) -> bool {
     match answer(alloc, code, returns, asked) {
         Ok(found) => found.as_slice() == text,

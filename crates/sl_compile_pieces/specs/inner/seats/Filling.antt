@@ -58,7 +58,7 @@ pub record FindsBase (c : CountingCode) (e : Election) (x : Slots) (g : Group) (
   pub table : may_write_table tree ≡ false
   pub weights : may_record_weight tree ≡ false
 
--- the weight of entry j that is told, if it has one
+-- the weight of entry j that is recorded, if it has one
 abbrev pub told_of : (ℕ → Item → List Weight) → List ℕ → ℕ → Item → List Weight
 told_of told v j i = if nat_lt 0 (slice_index v j) then told j i else []
 

@@ -16,7 +16,7 @@ use Rattle.sl_compile_pieces.specs.arenas.Arenas.{Arena}
 use Rattle.sl_compile_pieces.specs.declared.registers.TheConstants as reg
 use Rattle.sl_compile_pieces.specs.seats.Slots.{Slots, HasCells}
 
--- the records of the seats that the entries hold with t, of which those of w are told in the end
+-- the records of the seats that the entries hold with t, of which those of w are recorded in the end
 abbrev pub steps_upto : ℕ → Group → Ladders → (ℕ → ℕ → Mark) → List ℕ → List ℕ → List SeatStep
 steps_upto stage g l won w t =
     flat_map (λ x. map (seat_step stage g.scope g.entries l won w x.0 x.1) (range_with_len 0 (slice_index t x.0))) (enumerate_from 0 g.entries)
@@ -27,7 +27,7 @@ pub record HasSteps (x : Slots) (g : Group) (a : Arena) (seats : ℕ) (before : 
   pub steps : now ≡ before ++ added
   pub are : (w : List ℕ) → IsTop a.ladders seats w → IsPermutation added (steps_upto x.stage g a.ladders a.won w t)
 
--- from the state before on, the entries of the scope have got t, out of so many seats, and these weights were told
+-- from the state before on, the entries of the scope have got t, out of so many seats, and these weights were recorded
 abbrev pub IsSeated : Election → Slots → Group → Arena → List ℕ → ℕ → List Weight → State → List ℕ → State → Type 0
 IsSeated e x g a v seats told before t s = record {
   on : OnScope g.scope s;

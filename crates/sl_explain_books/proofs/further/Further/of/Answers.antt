@@ -1,4 +1,4 @@
--- The faults are told one after another, until nothing is refused.
+-- The faults are listed one after another, until nothing is refused.
 use Rattle.std.proofs.Common.{◌≡◌, [], ◌∷◌, ◌++◌, Option, None, Some, arith, refl, true}
 use Rattle.std.specs.Prelude.{is_none}
 use Rattle.sl_stages.specs.declared.check_fault.CheckFault.{CheckFault}

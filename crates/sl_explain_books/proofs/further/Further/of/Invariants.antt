@@ -1,4 +1,4 @@
--- The faults so far are told, and that much is left.
+-- The faults so far are listed, and that much is left.
 use Rattle.sl_explain_books.specs.Further.{without_fault}
 use Rattle.sl_explain_books.proofs.Going.{Going}
 use Rattle.sl_stages.specs.book.Books.{book_of}
