@@ -1,6 +1,6 @@
 //! The name of a stage.
 
-ghost use Rattle.std.specs.Prelude.{◌≡◌, ◌<◌, ◌≤◌, ℕ, List, length, IsTrue, IfOk};
+ghost use Rattle.std.specs.Prelude.{◌≡◌, ◌<◌, ℕ, List, IsTrue, IfOk};
 ghost use Rattle.sl_base_terms.specs.Words.{is_word};
 
 use sl_ratio::NoMemory;

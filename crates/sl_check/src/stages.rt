@@ -1,6 +1,6 @@
 //! The stages of a rulebook, and the base of its last clause.
 
-ghost use Rattle.std.specs.Prelude.{◌≡◌, ◌≤◌, [], ◌∷◌, map, length, Some, None, MatchResult, IsTrue};
+ghost use Rattle.std.specs.Prelude.{◌≡◌, ◌≤◌, [], map, Some, None, MatchResult, IsTrue};
 ghost use Rattle.sl_stages.specs.book.Trees.{tree_of, stage_of};
 ghost use Rattle.sl_stages.specs.book.Limits.{parts_of, is_within_limits};
 ghost use Rattle.sl_base_terms.specs.Tests.{first_failing, Judges};

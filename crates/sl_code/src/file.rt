@@ -1,12 +1,10 @@
 //! Reads a code file.
 
-ghost use Rattle.std.specs.Prelude.{◌≡◌, ◌∷◌, ◌++◌, ◌<◌, ◌≤◌, ◌^◌, [], length, flat_map, map, All, IsTrue, IfOk, IfErr, OnOk};
-ghost use Rattle.std.specs.List.{list_all};
+ghost use Rattle.std.specs.Prelude.{◌≡◌, ◌∷◌, ◌++◌, ◌<◌, ◌≤◌, [], length, flat_map, All, IsTrue, IfOk, IfErr, OnOk};
 ghost use Rattle.sl_base_terms.specs.declared.limits.TheConstants.{MAX_STAGES as most_stages};
 ghost use Rattle.sl_base_terms.specs.Words.{is_letter};
 ghost use Rattle.sl_code_instructions.specs.declared.code.TheConstants.{MAX_SLOTS as most_slots, MAX_INSTRS as most_instrs};
 ghost use Rattle.sl_code.specs.declared.fault.Cause.TheVariants as causes;
-ghost use Rattle.sl_base_terms.specs.Shapes.{shape_number};
 ghost use Rattle.sl_code.specs.Operands.{four_bytes};
 ghost use Rattle.sl_code.specs.Spelling.{opening, instr_bytes, stage_bytes, stages_part, slots_part, instrs_part, spelling_of};
 ghost use Rattle.sl_code_instructions.specs.Proper.{IsStage, IsInRange, IsProper};

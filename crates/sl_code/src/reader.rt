@@ -1,10 +1,10 @@
 //! Reads the bytes of a code from the front.
 
-ghost use Rattle.std.specs.Prelude.{◌≡◌, ◌+◌, ◌<◌, ◌≤◌, ◌^◌, ◌∷◌, ◌++◌, [], length, IsTrue, IfOk, IfErr};
+ghost use Rattle.std.specs.Prelude.{◌≡◌, ◌+◌, ◌<◌, ◌∷◌, ◌++◌, [], length, IfOk, IfErr};
 ghost use Rattle.sl_code.specs.declared.fault.Cause.TheVariants as causes;
 ghost use Rattle.sl_code_instructions.specs.declared.parts.Operand.TheVariants as operands;
 ghost use Rattle.sl_code.specs.Operands.{two_bytes, four_bytes, eight_bytes, is_any, tests_of};
-ghost use Rattle.sl_code.specs.Faults.{FailsTests, stop_at};
+ghost use Rattle.sl_code.specs.Faults.{stop_at};
 ghost use Rattle.sl_code.specs.Reading.{Ends, FailsAhead};
 
 use crate::fault::{Cause, Stop};

@@ -1,9 +1,8 @@
 //! Writes a code as bytes.
 
-ghost use Rattle.std.specs.Prelude.{◌≡◌, ◌∷◌, ◌++◌, flat_map, map, IfOk, OnOk};
-ghost use Rattle.sl_base_terms.specs.Shapes.{shape_number};
+ghost use Rattle.std.specs.Prelude.{◌≡◌, ◌++◌, IfOk, OnOk};
 ghost use Rattle.sl_code.specs.Operands.{bytes_of};
-ghost use Rattle.sl_code.specs.Spelling.{opening, instr_bytes, stage_bytes, stages_part, slots_part, instrs_part, spelling_of};
+ghost use Rattle.sl_code.specs.Spelling.{instr_bytes, stage_bytes, stages_part, slots_part, instrs_part, spelling_of};
 
 use crate::append::{extend, extend_eight, extend_four, extend_two, push};
 use sl_code_instructions::{Code, CodeStage, Instr, Operand, TableState};

@@ -21,7 +21,7 @@ use crate::stages::lay_stages;
 use sl_blocks::Easiest;
 use sl_code_instructions::{Code, Instr};
 use sl_ratio::NoMemory;
-use sl_stages::{Book, CheckedBook, ColumnType, MAX_STAGES, Shape, Stage};
+use sl_stages::{Book, CheckedBook, ColumnType, MAX_STAGES, Shape};
 use sl_verify::Verified;
 use std::alloc::Global;
 

@@ -1,6 +1,5 @@
 -- Choices between two plans, whose arm may be no instruction.
-use Rattle.std.proofs.Common.{◌≡◌, ℕ, ◌+◌, Bool, true, false, List, [], ◌∷◌, if◌then◌else◌, refl, ap}
-use Rattle.sl_code_instructions.specs.declared.instr.Instr.{Instr}
+use Rattle.std.proofs.Common.{◌≡◌, ℕ, ◌+◌, Bool, true, false, [], ◌∷◌, if◌then◌else◌, refl, ap}
 use Rattle.sl_code_instructions.specs.declared.kinds.Kinds.{Kinds}
 use Rattle.sl_compile_plans.specs.declared.plan.Test.{Test}
 use Rattle.sl_compile_plans.specs.Trees.{Tree, Line, Stop, Then, If, Each, Times, is_nothing, size_of, flat, with_arm, without_arm, known_in_arm, known_in_other}

@@ -1,7 +1,6 @@
 //! From plans to instructions.
 
 ghost use Rattle.std.specs.Prelude.{◌≡◌, ◌+◌, ◌<◌, ◌≤◌, List, [], ◌∷◌, ◌++◌, map, length, IfOk, OnErr, vec_len, vec_capacity};
-ghost use Rattle.sl_verify.specs.Kinds.{start_kinds};
 ghost use Rattle.sl_compile_plans.specs.Laid.{laid};
 ghost use Rattle.sl_compile_plans.specs.inner.Layout.{filled, tree_of};
 ghost use Rattle.sl_code_instructions.specs.declared.instr.Instr.{Instr as Instruction};

@@ -70,7 +70,10 @@ pub fn show<'a, 'b: 'a, B: Source, R: Source, W: Sink>(
     match judge_read(view.records(), alloc, book, view.stage(), returns) {
         Ok(read) => match written(view, alloc, &read.judged, out) {
             Ok(status) => Ok(Shown { status, read }),
-            Err(error) => Err(error),
+            Err(error) => {
+                drop(read);
+                Err(error)
+            }
         },
         Err(error) => Err(error),
     }

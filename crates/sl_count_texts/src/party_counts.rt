@@ -1,8 +1,7 @@
 //! What the lines of the parties tell, counted for all parties in one pass.
 
-ghost use Rattle.std.specs.Prelude.{◌≡◌, ◌<◌, ◌+◌, ◌^◌, ◌≤◌, All, IfOk, IfSome, map};
+ghost use Rattle.std.specs.Prelude.{◌≡◌, ◌<◌, ◌+◌, ◌^◌, ◌≤◌, All, IfOk, map};
 ghost use Rattle.std.specs.List.{range_with_len};
-ghost use Rattle.sl_stages.specs.returns.Election.{parties_of};
 ghost use Rattle.sl_stages.specs.returns.Facts.{by_party};
 ghost use Rattle.sl_count_texts.specs.inner.Fits.{Fits};
 ghost use Rattle.sl_count_texts.specs.inner.PartyCounts.{AreCounts, list_seats_of, counts, party_counted, winners_counted};

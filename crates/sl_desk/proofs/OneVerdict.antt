@@ -8,7 +8,7 @@ use Rattle.sl_parse.specs.declared.fault.Cause.{Cause}
 use Rattle.sl_parse.specs.declared.fault.Cause.TheVariants.{Expected, TooDeep, TooManyStages, After}
 use Rattle.sl_parse.specs.Faults.{IsFault}
 use Rattle.sl_parse.specs.Parsing as parse
-use Rattle.sl_parse.specs.Parsing.{limits, offset, fault_at, IsFaultOf}
+use Rattle.sl_parse.specs.Parsing.{limits, offset}
 use Rattle.sl_returns.specs.Returns.{records_in, returns_of}
 use Rattle.sl_returns.specs.declared.fault.ReturnsFault.{ReturnsFault}
 use Rattle.sl_stages.specs.declared.check_fault.CheckFault.{CheckFault}

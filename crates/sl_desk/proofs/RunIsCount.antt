@@ -9,11 +9,10 @@ use Rattle.sl_machine.specs.declared.machine.Ending.{Ending as Answer}
 use Rattle.sl_machine.specs.declared.machine.Ending.TheVariants as answer
 use Rattle.sl_machine.specs.Answers.{answer_of}
 use Rattle.sl_code_semantics.specs.Laws.{NeverStuck}
-use Rattle.sl_code_semantics.specs.Memories.{Held, held_of}
+use Rattle.sl_code_semantics.specs.Memories.{held_of}
 use Rattle.sl_code_semantics.specs.Runs.{Ending, Ended, OutOfBudget, Stuck, budget_of, ending}
 use Rattle.sl_code_semantics.specs.State.{End, Halted, Faulted}
 use Rattle.sl_code_semantics.specs.Tables.{held_table}
-use Rattle.sl_code_semantics.specs.Unrecorded.{unrecorded, without_records}
 use Rattle.sl_compile.specs.Compiled.{IsCompiled, ending_by}
 use Rattle.sl_compile.proofs.rulebooks.StageColumns.{code_stages_long}
 use Rattle.sl_returns.specs.Returns.{records_in}

@@ -1,5 +1,5 @@
 -- Faults that are listed one after another.
-use Rattle.std.proofs.Common.{◌≡◌, List}
+use Rattle.std.proofs.Common.{List}
 use Rattle.sl_stages.specs.declared.check_fault.CheckFault.{CheckFault}
 use Rattle.sl_stages.specs.book.Trees.{BookTree}
 use Rattle.sl_explain_books.specs.declared.further.Further.{Further}

@@ -5,10 +5,10 @@ ghost use Rattle.std.specs.Prelude.{◌≡◌};
 use crate::texts::{
     DRAW, MISSING, NEAR_STAGE, NO_STAGE, NOT_LANDS, NOT_LISTS, NOT_PARTIES, NOT_WINNERS,
 };
-use crate::words::{item_words, land_name, party_name, stage_name, stage_words, win_name};
+use crate::words::{item_words, land_name, party_name, stage_words, win_name};
 use sl_explain_texts::{Explanation, Message, Speaker, nearest};
 use sl_ratio::NoMemory;
-use sl_stages::{FaultKind, Item, LegalFault, Lot, Returns};
+use sl_stages::{Item, Lot, Returns};
 use std::alloc::Global;
 
 // Whether a lot gives a winner by the Land and the party of the winner.

@@ -1,7 +1,7 @@
 //! A divisor of the fewest digits between the claims of an allocation.
 
 ghost use Rattle.std.specs.Int.{div_ceil};
-ghost use Rattle.std.specs.Prelude.{◌≡◌, ◌+◌, ◌*◌, ◌^◌, ◌<◌, ◌≤◌, ◌↔◌, All, IfSome, MatchOption, length, sum};
+ghost use Rattle.std.specs.Prelude.{◌≡◌, ◌+◌, ◌*◌, ◌^◌, ◌<◌, ◌≤◌, All, IfSome, MatchOption, length, sum};
 ghost use Rattle.sl_law_margins.specs.Divisors.{IsShortDivisor, unit_places};
 ghost use Rattle.sl_law_margins.specs.inner.Needed.{power_of};
 ghost use Rattle.sl_law_margins.specs.inner.Units.{IsFrom, IsUpTo, IsUnitsAbove, IsHighest, IsRoundest, IsPowerOfTen, IsRound};

@@ -1,10 +1,9 @@
 //! Columns: their cells at the cursors, zeros, and columns of the returns.
 
-ghost use Rattle.std.specs.Prelude.{◌≡◌, ◌<◌, ℕ, Option, Some, IsSome, IfOk, length, map, slice_get, slice_index};
+ghost use Rattle.std.specs.Prelude.{◌≡◌, ◌<◌, Option, Some, IsSome, IfOk, length, map, slice_get, slice_index};
 ghost use Rattle.std.specs.List.{range_with_len};
 ghost use Rattle.sl_verify.specs.declared.known.TheConstants.{REGISTERS};
 ghost use Rattle.sl_verify.specs.Needs.{input_shape};
-ghost use Rattle.sl_code_instructions.specs.Codes.{CountingCode};
 ghost use Rattle.sl_code_instructions.specs.declared.instr.Instr.TheVariants as instr;
 ghost use Rattle.sl_stages.specs.declared.returns.ListVotes.{ListVotes};
 ghost use Rattle.sl_stages.specs.returns.Election.{IsElection, parties_of};
@@ -14,7 +13,7 @@ ghost use Rattle.sl_code_semantics.specs.Places.{cells_of};
 ghost use Rattle.sl_code_semantics.specs.Effects.{Goes, effect, input_of, names_or_most};
 ghost use Rattle.sl_code_semantics.specs.Safe.{IsInRange};
 ghost use Rattle.sl_code_semantics.specs.Seen.{place_at};
-ghost use Rattle.sl_machine.specs.inner.Stores.{state_of, columns_of, sizes_of, sizes_for, effect_of};
+ghost use Rattle.sl_machine.specs.inner.Stores.{state_of, sizes_of, sizes_for, effect_of};
 
 use crate::step::Effect;
 use crate::store::Store;

@@ -1,6 +1,6 @@
 //! Winners who are seated, and the ends of a run.
 
-ghost use Rattle.std.specs.Prelude.{◌≡◌, ◌<◌, ℕ, None, Some, IsTrue, IsSome, IfOk, length};
+ghost use Rattle.std.specs.Prelude.{◌≡◌, ◌<◌, None, Some, IsTrue, IsSome, IfOk, length};
 ghost use Rattle.std.specs.Option.{option_and_then};
 ghost use Rattle.sl_verify.specs.declared.known.TheConstants.{REGISTERS};
 ghost use Rattle.sl_verify.specs.Needs.{has_stage};
@@ -11,7 +11,7 @@ ghost use Rattle.sl_prio.specs.Prio.{top};
 ghost use Rattle.sl_stages.specs.returns.Election.{Election, IsElection, wins_of};
 ghost use Rattle.sl_code_semantics.specs.State.{State, Halted, with_place};
 ghost use Rattle.sl_code_semantics.specs.Places.{scope_at};
-ghost use Rattle.sl_code_semantics.specs.Effects.{Goes, Ends, effect, given, faults, kind_of};
+ghost use Rattle.sl_code_semantics.specs.Effects.{Goes, Ends, effect, faults, kind_of};
 ghost use Rattle.sl_code_semantics.specs.Safe.{IsInRange};
 ghost use Rattle.sl_machine.specs.inner.Stores.{state_of, sizes_of, effect_of, end_with};
 

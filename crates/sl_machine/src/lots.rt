@@ -1,6 +1,6 @@
 //! The lots of a code's stages, as numbers of entries of the priority table.
 
-ghost use Rattle.std.specs.Prelude.{◌≡◌, ◌<◌, ◌≤◌, ◌++◌, Some, None, IfOk, OnOk, length, slice_get, option_map, if◌then◌else◌};
+ghost use Rattle.std.specs.Prelude.{◌≡◌, ◌<◌, ◌++◌, Some, None, IfOk, OnOk, length, slice_get, option_map, if◌then◌else◌};
 ghost use Rattle.std.specs.Option.{option_to_list};
 ghost use Rattle.sl_stages.specs.returns.Election.{IsElection, IsLot, lands_of, parties_of, wins_of};
 ghost use Rattle.std.specs.Str.{bytes_eq};

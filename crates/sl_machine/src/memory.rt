@@ -1,6 +1,6 @@
 //! What a run leaves.
 
-ghost use Rattle.std.specs.Prelude.{◌≡◌, ◌<◌, Some, IsSome, slice_get, length};
+ghost use Rattle.std.specs.Prelude.{◌≡◌, ◌<◌, Some, slice_get, length};
 ghost use Rattle.std.specs.Option.{ForSome};
 ghost use Rattle.sl_stages.specs.returns.Election.{Election};
 ghost use Rattle.sl_code_instructions.specs.Codes.{CountingCode};

@@ -1,6 +1,6 @@
 //! The priority table, which is on or off, and the lots that draw from it.
 
-ghost use Rattle.std.specs.Prelude.{◌≡◌, ◌<◌, All, Some, None, [], List, IsSome, IfOk, OnOk, length, map, drop, slice_get, option_map, if◌then◌else◌};
+ghost use Rattle.std.specs.Prelude.{◌≡◌, ◌<◌, All, Some, None, [], IsSome, IfOk, OnOk, length, map, drop, slice_get, option_map, if◌then◌else◌};
 ghost use Rattle.std.specs.Option.{ForSome, option_and_then};
 ghost use Rattle.sl_code_instructions.specs.declared.operand.Ranking.TheVariants as ranking;
 ghost use Rattle.sl_prio.specs.Prio.{top, peers, is_covered};

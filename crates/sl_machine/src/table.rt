@@ -1,6 +1,6 @@
 //! Instructions on the priority table: entries that go in, and those that are taken.
 
-ghost use Rattle.std.specs.Prelude.{◌≡◌, ◌<◌, ◌+◌, min, Some, IsTrue, IsSome, IfOk, option_map};
+ghost use Rattle.std.specs.Prelude.{◌≡◌, ◌<◌, ◌+◌, min, IsTrue, IsSome, IfOk};
 ghost use Rattle.std.specs.Option.{ForSome, option_and_then};
 ghost use Rattle.sl_ratio.specs.Quotient.{quotient};
 ghost use Rattle.sl_ratio.specs.declared.limits.TheConstants.{MAX_WEIGHT, MAX_SEATS};
@@ -13,8 +13,7 @@ ghost use Rattle.sl_code_instructions.specs.declared.operand.Ranking.TheVariants
 ghost use Rattle.sl_prio.specs.Prio.{top};
 ghost use Rattle.sl_stages.specs.returns.Election.{Election, IsElection};
 ghost use Rattle.sl_code_semantics.specs.Places.{at_entry};
-ghost use Rattle.sl_code_semantics.specs.Effects.{Goes, effect, given, name_of, winner_at};
-ghost use Rattle.sl_code_semantics.specs.Drawn.{lot_of};
+ghost use Rattle.sl_code_semantics.specs.Effects.{Goes, effect, given, winner_at};
 ghost use Rattle.sl_code_semantics.specs.Safe.{IsInRange, entries_in};
 ghost use Rattle.sl_machine.specs.inner.Lots.{lots_for};
 ghost use Rattle.sl_code_semantics.specs.Seen.{entry_at, puts_in};

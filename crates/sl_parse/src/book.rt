@@ -1,6 +1,6 @@
 //! Reading stages, the last clause, and a book.
 
-ghost use Rattle.std.specs.Prelude.{◌≡◌, drop, map, IfOk, IsTrue};
+ghost use Rattle.std.specs.Prelude.{drop, map, IfOk, IsTrue};
 ghost use Rattle.sl_stages.specs.book.Trees.{stage_of};
 ghost use Rattle.sl_stages.specs.book.Limits.{is_within_limits};
 ghost use Rattle.sl_parse.specs.inner.Reading.{Gives, read_stage, read_stages, read_last, read_book};

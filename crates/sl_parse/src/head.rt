@@ -1,6 +1,6 @@
 //! Reading what stands before the stages.
 
-ghost use Rattle.std.specs.Prelude.{◌≡◌, drop};
+ghost use Rattle.std.specs.Prelude.{drop};
 ghost use Rattle.sl_parse.specs.inner.Reading.{Gives, read_valid, read_winners, read_condition, read_conditions, read_head};
 
 use crate::fault::{Cause, Stop};

@@ -2,7 +2,7 @@
 
 ghost use Rattle.std.specs.Prelude.{◌≡◌, ◌-◌, ◌*◌, ◌<◌, ◌≤◌, length, sum, MatchOption};
 ghost use Rattle.std.specs.List.{All};
-ghost use Rattle.sl_ratio.specs.Bounds.{AreBounds, IsRounding, HasWeight, IsLastBound, IsNextBound};
+ghost use Rattle.sl_ratio.specs.Bounds.{AreBounds, IsRounding, IsLastBound, IsNextBound};
 ghost use Rattle.sl_ratio.specs.inner.Picks.{lesser, greater};
 
 use crate::limits::{MAX_SEATS, MAX_WEIGHT};

@@ -19,8 +19,12 @@ ShowsJudged show (StageUnknown book name) tables = tables ≡ []
 ShowsJudged show (ReturnsRefused returns) tables = tables ≡ []
 ShowsJudged show (Counted counting) tables = Shows counting.book.book counting.returns show counting.outcome.end tables
 
--- its status and its tables: those of what its inputs come to, or where names are given, of refused names the status and no table
+-- the status and the tables that show it; or where names are given, of refused names the status and no table
+abbrev pub IsShown : Show → (is_named : Bool) → Judged → Status → List Table → Type 0
+IsShown show is_named judged ends tables =
+    ((ends ≡ judged_status judged) × ShowsJudged show judged tables) ⊎ ((is_named ≡ true) × (ends ≡ status.Refused) × (tables ≡ []))
+
+-- the status and the tables of a command: those that show what its inputs come to
 abbrev pub IsReport : Show → (is_named : Bool) → BookInput → List ℕ → Status → List Table → Type 0
 IsReport show is_named input returns ends tables =
-    (judged : Judged) × IsJudged Kept None input returns judged
-    × (((ends ≡ judged_status judged) × ShowsJudged show judged tables) ⊎ ((is_named ≡ true) × (ends ≡ status.Refused) × (tables ≡ [])))
+    (judged : Judged) × IsJudged Kept None input returns judged × IsShown show is_named judged ends tables

@@ -11,7 +11,7 @@ ghost use Rattle.sl_count_outcomes.specs.Outcomes.{FitsEnd, FitsOutcome};
 ghost use Rattle.sl_stages.specs.declared.count.Records.TheVariants.{Kept};
 ghost use Rattle.sl_count_inputs.specs.Judging.{input_of};
 ghost use Rattle.sl_count_inputs.specs.declared.status.Status.TheVariants as status;
-ghost use Rattle.sl_report_commands.specs.Reports.{IsReport, ShowsJudged};
+ghost use Rattle.sl_report_commands.specs.Reports.{IsReport, IsShown, ShowsJudged};
 ghost use Rattle.sl_report_commands.specs.Statuses.{judged_status};
 ghost use Rattle.sl_report_commands.specs.Summaries.{IsRefusal};
 ghost use Rattle.sl_stages.specs.book.Books.{book_of};
@@ -132,6 +132,27 @@ pub fn answer_judged(
     }
 }
 
+// What shows what inputs come to, with the full names of a text, and its text.
+fn shown(
+    alloc: Global,
+    show: Show<'_>,
+    judged: &Judged<'_>,
+    names: Option<&[u8]>,
+    texts: Texts<'_>,
+    style: Style,
+) -> Result<Written, NoMemory>
+    requires fits { FitsJudged Kept judged.now }
+    ensures { IfOk result (λ w. IsShown show.entry (is_some names.entry) judged.now w.answer.status (map table_of w.answer.sheets.items)) }
+{
+    let names = names_of(alloc, names)?;
+    let answer = answer_judged(alloc, show, judged, &names, style.language)?;
+    let text = judged_text(alloc, show, &answer, judged, texts, style)?;
+    match answer {
+        Ok(answer) => Ok(Written { answer, text }),
+        Err(answer) => Ok(Written { answer, text }),
+    }
+}
+
 // What a command on one book answers, and its text.
 fn one_book(
     alloc: Global,
@@ -143,18 +164,12 @@ fn one_book(
 ) -> Result<Written, NoMemory>
     ensures { IfOk result (λ w. IsReport show.entry (is_some names.entry) (input_of book.entry) returns.now w.answer.status (map table_of w.answer.sheets.items)) }
 {
-    let names = names_of(alloc, names)?;
     let judged = judge(Records::Kept, alloc, book, None, returns)?;
-    let answer = answer_judged(alloc, show, &judged, &names, style.language)?;
     let texts = Texts {
         book: bytes_of(book),
         returns,
     };
-    let text = judged_text(alloc, show, &answer, &judged, texts, style)?;
-    match answer {
-        Ok(answer) => Ok(Written { answer, text }),
-        Err(answer) => Ok(Written { answer, text }),
-    }
+    shown(alloc, show, &judged, names, texts, style)
 }
 
 /// What a book comes to on returns, in full. Inputs that `count` refuses are refused by the same line, and a legal fault has its line first.

@@ -1,6 +1,5 @@
 -- The parties that a press report shows, in the order of their seats, and those that it leaves out.
 use Rattle.std.specs.List.Sorted.{IsPermutation, IsSortedByKey, IsStableByKey}
-use Rattle.std.specs.List.{position}
 use Rattle.std.specs.Ordering.{nat_cmp}
 use Rattle.std.specs.Prelude.{ℕ, ◌-◌, ◌^◌, ◌||◌, Bool, List, [], Option, filter, is_none, map, nat_lt, option_map, slice_index_or, unwrap_or}
 use Rattle.sl_report_results.specs.Earlier.{seats_before}

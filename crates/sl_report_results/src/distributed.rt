@@ -6,7 +6,7 @@ ghost use Rattle.sl_stages.specs.meaning.Counts.{HoldsStages};
 ghost use Rattle.sl_ratio.specs.declared.method.Method.TheVariants as by;
 ghost use Rattle.sl_report_results.specs.Lots.{AreLots};
 ghost use Rattle.sl_report_results.specs.Places.{IsScope, items_in};
-ghost use Rattle.sl_report_results.specs.Scopes.{Adds, AreMargins, AreScopes, Follows, HasMargins, HasNone, HasQuota, IsAllocated, IsHead, IsScoped, held_of, scope_entries, weights_of};
+ghost use Rattle.sl_report_results.specs.Scopes.{Adds, AreMargins, AreScopes, HasMargins, HasNone, HasQuota, IsAllocated, IsHead, IsScoped, held_of, scope_entries, weights_of};
 ghost use Rattle.sl_report_results.specs.StageScopes.{AreStageScopes, name_of};
 ghost use Rattle.sl_stages.specs.book.Books.{book_of};
 ghost use Rattle.sl_stages.specs.book.Trees.{tree_of};

@@ -1,6 +1,6 @@
 //! The columns that a book can name, of returns.
 
-ghost use Rattle.std.specs.Prelude.{◌≡◌, ◌<◌, ℕ, ◌∷◌, [], ◌++◌, map, slice_index, IfOk, OnOk, count_by, unwrap_or, IsTrue};
+ghost use Rattle.std.specs.Prelude.{◌≡◌, ◌<◌, ◌∷◌, [], ◌++◌, map, IfOk, OnOk, count_by, unwrap_or, IsTrue};
 ghost use Rattle.sl_stages.specs.book.Books.{book_of};
 ghost use Rattle.sl_stages.specs.book.Typing.{fact_type, is_typed};
 ghost use Rattle.sl_stages.specs.returns.Election.{IsElection, IsWin, lands_of, parties_of};
@@ -12,7 +12,7 @@ ghost use Rattle.sl_report_results.specs.Cells.{is_outside, is_won, list_cell, l
 use crate::parts::PartyPart;
 use crate::votes::{independents_in, one_if};
 use sl_ratio::NoMemory;
-use sl_stages::{Book, Column, Fact, Returns, Shape, Win};
+use sl_stages::{Book, Column, Fact, Returns, Win};
 use std::alloc::Global;
 
 /// A book and returns, with what each party has and meets.

@@ -4,7 +4,7 @@ ghost use Rattle.std.specs.Prelude.{◌≡◌, ◌<◌, ◌^◌, ℕ, IfOk, Matc
 ghost use Rattle.std.specs.List.{position};
 ghost use Rattle.sl_stages.specs.returns.Election.{parties_of};
 ghost use Rattle.sl_stages.specs.returns.Facts.{is_of, valid_votes, all_valid_votes, meets};
-ghost use Rattle.sl_report_results.specs.Parts.{votes_of, part_of, parts_of, IsEnough, IsLeast};
+ghost use Rattle.sl_report_results.specs.Parts.{part_of, parts_of, IsEnough, IsLeast};
 
 use crate::votes::{Votes, all_votes, party_votes, winners_of};
 use sl_ratio::NoMemory;

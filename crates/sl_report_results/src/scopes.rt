@@ -3,17 +3,16 @@
 ghost use Rattle.std.specs.Prelude.{◌≡◌, ◌++◌, ◌∷◌, [], None, Some, IfOk, OnOk, map, filter, length, slice_get, sum_by, ◌<◌};
 ghost use Rattle.std.specs.List.{zip};
 ghost use Rattle.sl_ratio.specs.declared.method.Method.TheVariants as by;
-ghost use Rattle.sl_report_results.specs.Places.{IsScope, items_in};
-ghost use Rattle.sl_report_results.specs.Scopes.{Follows, IsScoped, entry_of, is_shown, quota_entry, shown_entries, with_margins};
+ghost use Rattle.sl_report_results.specs.Places.{items_in};
+ghost use Rattle.sl_report_results.specs.Scopes.{entry_of, is_shown, quota_entry, shown_entries, with_margins};
 ghost use Rattle.sl_report_results.specs.Sums.{capped};
 
 use crate::columns::Distribution;
 use crate::drawing::lot_place;
 use crate::fraction::Fraction;
-use crate::margins::{Margins, margins_of};
 use crate::places::{items_in, number_of, seats_of};
 use sl_law_margins::Decimal;
-use sl_ratio::{Divisor, Method, NoMemory, Ratio};
+use sl_ratio::{Method, NoMemory, Ratio};
 use sl_stages::{Item, Returns, Scope, SeatStep};
 use std::alloc::Global;
 

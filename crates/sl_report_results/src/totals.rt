@@ -3,7 +3,7 @@
 ghost use Rattle.std.specs.Prelude.{◌≡◌, ◌<◌, count_by, slice_index, sum_by};
 ghost use Rattle.sl_report_results.specs.Seats.{is_open};
 ghost use Rattle.sl_report_results.specs.Sums.{capped, lists_of};
-ghost use Rattle.sl_stages.specs.returns.Election.{has_list, parties_of};
+ghost use Rattle.sl_stages.specs.returns.Election.{parties_of};
 ghost use Rattle.sl_stages.specs.returns.Facts.{lands, parties};
 
 use crate::votes::one_if;

@@ -1,6 +1,6 @@
 //! Votes and winners, summed.
 
-ghost use Rattle.std.specs.Prelude.{◌≡◌, ◌<◌, ◌^◌, ◌≤◌, count_by};
+ghost use Rattle.std.specs.Prelude.{◌≡◌, ◌<◌, ◌^◌, count_by};
 ghost use Rattle.sl_stages.specs.returns.Election.{lands_of, parties_of};
 ghost use Rattle.sl_stages.specs.returns.Votes.{valid_in, counted_in};
 ghost use Rattle.sl_stages.specs.returns.Facts.{is_in, valid_votes, all_valid_votes};

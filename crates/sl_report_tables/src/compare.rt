@@ -1,9 +1,9 @@
 //! The sheets of several rulebooks, side by side.
 
-ghost use Rattle.std.specs.Prelude.{◌≡◌, ◌++◌, ◌∷◌, [], IfOk, List, OnOk, flat_map, map, string_bytes};
+ghost use Rattle.std.specs.Prelude.{◌≡◌, ◌++◌, ◌∷◌, [], IfOk, OnOk, flat_map, map, string_bytes};
 ghost use Rattle.sl_report_forms.specs.Cells.{Content};
 ghost use Rattle.sl_report_forms.specs.Tables.{contents_of, table_of, with_columns, with_rows};
-ghost use Rattle.sl_report_tables.specs.Compare.{AreComparison, IsBookRow, IsBooksTable, book_cells, book_row, compare_table, compared, compared_cell, compared_name, compared_row, fault_cell, seats_in};
+ghost use Rattle.sl_report_tables.specs.Compare.{AreComparison, IsBooksTable, book_cells, book_row, compare_table, compared, compared_cell, compared_name, compared_row, fault_cell, seats_in};
 ghost use Rattle.sl_report_tables.specs.Parts.{cells_of};
 
 use crate::changes::{changes_sheet, each_sheet};

@@ -2,7 +2,7 @@
 //! out lacks.
 
 ghost use Rattle.std.specs.List.{AllZip};
-ghost use Rattle.std.specs.Prelude.{◌≡◌, ◌++◌, ◌∷◌, [], IfOk, List, OnOk, filter, flat_map, if◌then◌else◌, map, option_map, take};
+ghost use Rattle.std.specs.Prelude.{◌≡◌, ◌∷◌, [], IfOk, List, OnOk, filter, flat_map, if◌then◌else◌, map, option_map, take};
 ghost use Rattle.sl_report_forms.specs.Cells.{Content};
 ghost use Rattle.sl_report_forms.specs.Tables.{table_of, with_rows};
 ghost use Rattle.sl_report_results.specs.Earlier.{all_before};

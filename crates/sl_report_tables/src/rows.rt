@@ -3,7 +3,6 @@
 ghost use Rattle.std.specs.Prelude.{◌≡◌, ◌*◌, ◌++◌, ◌∷◌, [], IfOk, OnOk, None, Some, flat_map, if◌then◌else◌, map};
 ghost use Rattle.sl_report_forms.specs.Cells.{a_flag, a_text, nothing};
 ghost use Rattle.sl_report_forms.specs.Tables.{blank_table, contents_of, table_of, with_rows};
-ghost use Rattle.sl_report_results.specs.Fractions.{has_decimals};
 ghost use Rattle.sl_report_tables.specs.Parts.{a_name, cells_of, condition_cell, fraction_cells, percent_cells, rounded_cell, sides_of, two_empty};
 
 use crate::lowest::lowest;

@@ -3,7 +3,7 @@
 ghost use Rattle.std.specs.Prelude.{◌≡◌, ◌++◌, ◌∷◌, [], IfOk, OnOk, if◌then◌else◌};
 ghost use Rattle.sl_report_forms.specs.Cells.{a_number, nothing};
 ghost use Rattle.sl_report_forms.specs.Tables.{contents_of, table_of, with_rows};
-ghost use Rattle.sl_report_tables.specs.Parts.{cells_of, fraction_cells, sides_of};
+ghost use Rattle.sl_report_tables.specs.Parts.{cells_of};
 ghost use Rattle.sl_report_tables.specs.Scopes.{divisor_cell, entries_table, entry_row, margin_cells, names_cell, scope_row, scopes_table};
 
 use crate::lowest::lowest_text;

@@ -1,7 +1,6 @@
 //! The sheet of warnings of what is likely a mistake in returns.
 
 ghost use Rattle.std.specs.Prelude.{◌≡◌, ◌∷◌, [], IfOk, OnOk, option_map};
-ghost use Rattle.sl_report_forms.specs.Cells.{a_text};
 ghost use Rattle.sl_report_forms.specs.Tables.{table_of, with_rows};
 ghost use Rattle.sl_report_tables.specs.Totals.{warning_row, warnings_table};
 ghost use Rattle.sl_report_warnings.specs.Warnings.{warnings_of};

@@ -1,5 +1,5 @@
 -- One warning more.
-use Rattle.std.proofs.Common.{List, [], append_assoc, append-nil, ap, refl, sym, ◌++◌, ◌∷◌, ◌≡◌, ◌∙◌, ℕ}
+use Rattle.std.proofs.Common.{List, [], append_assoc, append-nil, ap, refl, sym, ◌++◌, ◌∷◌, ◌∙◌, ℕ}
 use Rattle.sl_explain_texts.specs.Heads.{Begins}
 use Rattle.sl_explain_texts.specs.declared.language.Language.{Language}
 use Rattle.sl_report_warnings.specs.Heads.{AreWritten, head_of}

@@ -1,7 +1,6 @@
 -- What is likely a mistake in returns, and in a rulebook and returns together (docs/returns.md, section 7).
 use Rattle.std.specs.List.{list_all, list_any, range_with_len}
-use Rattle.std.specs.Option.{ForSome}
-use Rattle.std.specs.Prelude.{Bool, List, None, Option, Some, [], codes, count_by, false, flat_map, if◌then◌else◌, is_some, length, nat_eq, nat_le, not, slice_get, slice_index, slice_index_or, true, ◌&&◌, ◌++◌, ◌∷◌, ℕ}
+use Rattle.std.specs.Prelude.{Bool, List, None, Option, Some, [], codes, count_by, false, flat_map, if◌then◌else◌, is_some, length, nat_eq, nat_le, not, slice_get, slice_index, true, ◌&&◌, ◌++◌, ◌∷◌, ℕ}
 use Rattle.std.specs.Str.{bytes_eq, str_eq_ignore_ascii_case}
 use Rattle.sl_check.specs.Drawn.{given_shape}
 use Rattle.sl_report_results.specs.Cells.{is_won}

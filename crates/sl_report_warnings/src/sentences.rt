@@ -1,6 +1,6 @@
 //! Warnings as sentences, in both languages.
 
-ghost use Rattle.std.specs.Prelude.{◌≡◌, ◌++◌, IfOk};
+ghost use Rattle.std.specs.Prelude.{◌≡◌, IfOk};
 ghost use Rattle.sl_explain_texts.specs.Heads.{Begins};
 ghost use Rattle.sl_report_warnings.specs.Heads.{AreWritten, head_of};
 

@@ -1,6 +1,6 @@
 //! The records of each kind, tested and joined to the returns.
 
-ghost use Rattle.std.specs.Prelude.{◌≡◌, ◌<◌, IfOk, IfErr, OnOk, IsOk, Some, false};
+ghost use Rattle.std.specs.Prelude.{◌≡◌, ◌<◌, IfErr, OnOk, IsOk, Some, false};
 ghost use Rattle.csv.specs.Records.{fields_of};
 ghost use Rattle.sl_stages.specs.returns.Votes.{IsListVotes};
 ghost use Rattle.sl_stages.specs.returns.Election.{lands_of, parties_of, has_list, with_list};

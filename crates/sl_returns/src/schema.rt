@@ -1,6 +1,6 @@
 //! The schema of the records: the kinds, the columns, and what each cell holds.
 
-ghost use Rattle.std.specs.Prelude.{◌≡◌, ◌∷◌, [], get_or};
+ghost use Rattle.std.specs.Prelude.{◌≡◌, [], get_or};
 ghost use Rattle.sl_returns.specs.Schema.{column_names, kind_named, word_of, content_of, least, greatest};
 
 use sl_stages::{MAX_SEATS, MAX_SLATE, MAX_VOTES};

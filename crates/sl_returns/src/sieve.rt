@@ -4,7 +4,7 @@ ghost use Rattle.std.specs.Prelude.{[], ◌++◌, ◌∷◌, ◌≡◌, false, I
 ghost use Rattle.csv.specs.Reading.{error_kind, stops_reader};
 ghost use Rattle.csv.specs.Records.{fields_of};
 ghost use Rattle.sl_returns.specs.Cells.{Record};
-ghost use Rattle.sl_returns.specs.Further.{Refusal, refusal, refusals_for, refused_of};
+ghost use Rattle.sl_returns.specs.Further.{Refusal, refusal, refusals_for};
 ghost use Rattle.sl_returns.specs.inner.Building.{StandsFor};
 ghost use Rattle.sl_returns.specs.inner.Sifting.{GoesOn, HasEnded, IsSifted, Keeps};
 ghost use Rattle.sl_returns.specs.Returns.{records_in};

@@ -55,8 +55,10 @@ impl<O: Outside, W: Sink, E: Sink> Terminal<O, W, E> {
         let mut source = open_book(&self.outside, book)?;
         let mut file = open(&self.outside, returns, Input::Returns)?;
         let shown = show(view, alloc, &mut source, &mut file, &mut self.out)?;
-        self.tell_read(shown.status, book, returns, &shown.read);
-        Ok(shown.status)
+        let status = shown.status;
+        self.tell_read(status, book, returns, &shown.read);
+        drop(shown);
+        Ok(status)
     }
 
     // Shows of a count what is asked for.

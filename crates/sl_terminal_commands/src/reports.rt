@@ -18,7 +18,7 @@ ghost use Rattle.sl_terminal_commands.specs.inner.Reports.{IsShownBy, SaysBy};
 use crate::failure::Failure;
 use crate::terminal::Terminal;
 use sl_count_inputs::{BookText, Bytes, Input, Sink, Status, read_all};
-use sl_count_outcomes::{Read, Records, judge_read};
+use sl_count_outcomes::{Judged, Read, Records, judge_read};
 use sl_report_commands::{
     Answer, EarlierParty, FullNames, MAX_BEFORE_BYTES, MAX_NAMES_BYTES, Shape, Show, Style, Texts,
     answer_judged, bytes_of, earlier_in, judged_text, names_in,
@@ -125,7 +125,27 @@ impl<O: Outside, W: Sink, E: Sink> Terminal<O, W, E> {
         Ok(judge_read(Records::Kept, self.alloc, &mut source, None, &mut file)?)
     }
 
-    // What a rulebook and returns come to, and the answer that shows it, or that refuses the names or the earlier table.
+    // The answer that shows what inputs come to, or that refuses the names or the earlier table.
+    fn answer_to<'a>(
+        &self,
+        show: Show<'_>,
+        judged: &Judged<'_>,
+        writing: Writing<'a>,
+    ) -> Result<Result<Answer, Answer>, Failure<'a, O::Reason>>
+        requires fits { FitsJudged Kept judged.now }
+        ensures shown { IfOk result (λ answer. IfOk answer (λ a. a.status ≡ judged_status judged.now)) }
+        ensures refused { IfOk result (λ answer. IfErr answer (λ a. ((is_some writing.entry.before || is_some writing.entry.names) ≡ true) × (a.status ≡ status.Refused))) }
+        ensures early { IfErr result IsEarly }
+    {
+        let names = self.full_names(writing.names)?;
+        let table = self.read_beside(writing.before, Input::Before, MAX_BEFORE_BYTES)?;
+        let (names, earlier) = first_refusal(names, earlier_in(self.alloc, &table)?);
+        let show = show.beside(earlier.as_deref());
+        let language = writing.style.language;
+        Ok(answer_judged(self.alloc, show, judged, &names, language)?)
+    }
+
+    // What a rulebook and returns come to, and the answer to it.
     fn reported<'a>(
         &self,
         show: Show<'_>,
@@ -140,12 +160,7 @@ impl<O: Outside, W: Sink, E: Sink> Terminal<O, W, E> {
         ensures early { IfErr result IsEarly }
     {
         let read = self.judged_at(book, returns)?;
-        let names = self.full_names(writing.names)?;
-        let table = self.read_beside(writing.before, Input::Before, MAX_BEFORE_BYTES)?;
-        let (names, earlier) = first_refusal(names, earlier_in(self.alloc, &table)?);
-        let show = show.beside(earlier.as_deref());
-        let language = writing.style.language;
-        let answer = answer_judged(self.alloc, show, &read.judged, &names, language)?;
+        let answer = self.answer_to(show, &read.judged, writing)?;
         Ok((read, answer))
     }
 
@@ -198,7 +213,9 @@ impl<O: Outside, W: Sink, E: Sink> Terminal<O, W, E> {
             texts,
             writing.style,
         )?;
-        self.finish_report(&read, &answer, text.as_slice(), book, returns)
+        let ended = self.finish_report(&read, &answer, text.as_slice(), book, returns);
+        drop(read);
+        ended
     }
 
     /// Writes a report to standard output.

@@ -1,7 +1,7 @@
 //! The commands that report of several rulebooks or of none: the sums of returns, and rulebooks side by side. Each input is read and judged once.
 
 ghost use Rattle.std.specs.Option.{option_map};
-ghost use Rattle.std.specs.Prelude.{◌≡◌, All, Contains, IfErr, IfOk, IfSome, None, length, map, true};
+ghost use Rattle.std.specs.Prelude.{◌≡◌, All, IfErr, IfOk, None, length, map, true};
 ghost use Rattle.sl_explain_calls.specs.Codes.{book_code, election_code, subject};
 ghost use Rattle.sl_count_inputs.specs.Judging.{election_verdict, tree_verdict};
 ghost use Rattle.sl_count_inputs.specs.declared.status.Input.TheVariants as input;
@@ -11,7 +11,7 @@ ghost use Rattle.sl_terminal_commands.specs.Ends.{Ends, IsEarly, IsSilent};
 ghost use Rattle.sl_terminal_commands.specs.Sums.{AreJudged, IsOfComparison, IsOfSums, IsSummary, IsVerdictOn, given_word};
 ghost use Rattle.sl_terminal_commands.specs.Frames.{TellsNothing};
 ghost use Rattle.sl_terminal_commands.specs.Said.{OnlyWarns, Says, fault};
-ghost use Rattle.sl_terminal_commands.specs.inner.Verdicts.{IsDoneOrRefused, IsEndBy, IsEndOfAll, IsEndOn, IsGood, IsOfBoth, IsOfCompared, IsOfElection, IsOfOneOf, IsOfTable, IsOfVaried};
+ghost use Rattle.sl_terminal_commands.specs.inner.Verdicts.{IsDoneOrRefused, IsEndBy, IsEndOfAll, IsEndOn, IsOfBoth, IsOfCompared, IsOfElection, IsOfOneOf, IsOfTable, IsOfVaried};
 
 use crate::failure::Failure;
 use crate::manner::{Manner, called_inputs, inputs_of};

@@ -48,5 +48,7 @@ pub fn counted<O: Outside, W: Sink>(
 {
     let (mut book, mut returns) = opened(outside, &count)?;
     let shown = show(count.view, alloc, &mut book, &mut returns, out)?;
-    Ok(shown.status)
+    let status = shown.status;
+    drop(shown);
+    Ok(status)
 }

@@ -163,6 +163,18 @@ fn with_command<'a>(
     program.subcommand(command(alloc, language, form)?)
 }
 
+// The program with all commands.
+fn with_commands<'a>(
+    alloc: Global,
+    language: Language,
+    mut program: Command<'a>,
+) -> Result<Command<'a>, AllocError> {
+    for command in COMMANDS {
+        program = with_command(alloc, language, program, &command.form())?;
+    }
+    Ok(program)
+}
+
 // The program with the command that the words name, since the others have no part in what that one reads and says; with all commands where they
 // name none.
 fn program<'a>(
@@ -170,13 +182,11 @@ fn program<'a>(
     language: Language,
     words: &[String],
 ) -> Result<Command<'a>, AllocError> {
-    let named = command_of(words).map(|form| form.name);
-    let mut program = command(alloc, language, &PROGRAM)?;
-    for form in &COMMANDS {
-        if named.is_none() || named == Some(form.name) {
-            program = with_command(alloc, language, program, form)?;
-        }
-    }
+    let program = command(alloc, language, &PROGRAM)?;
+    let program = match command_of(words) {
+        Some(form) => with_command(alloc, language, program, &form)?,
+        None => with_commands(alloc, language, program)?,
+    };
     Ok(program.version(VERSION).subcommand_required(true))
 }
 
@@ -268,6 +278,26 @@ fn unasked(matches: &ArgMatches<'_>) -> &'static Message {
     }
 }
 
+// What words ask for, or what is said of them, by the program that takes them.
+fn read_by<'a>(
+    alloc: Global,
+    language: Language,
+    words: &'a [String],
+    program: &mut Command<'a>,
+) -> Result<Result<Asked<'a>, Answer>, NoMemory> {
+    let matches = match program.try_get_matches_from_mut(words) {
+        Ok(matches) => matches,
+        Err(error) => return Ok(Err(answer_to(alloc, language, words, program, &error)?)),
+    };
+    match asked_in(alloc, &matches)? {
+        Some(asked) if asked.request.overwrites_its_book() => {
+            Ok(Err(refuse(alloc, language, program, &SAME_FILE)?))
+        }
+        Some(asked) => Ok(Ok(asked)),
+        None => Ok(Err(refuse(alloc, language, program, unasked(&matches))?)),
+    }
+}
+
 // What words ask for, or what is said of them.
 fn read<'a>(
     alloc: Global,
@@ -275,20 +305,9 @@ fn read<'a>(
     words: &'a [String],
 ) -> Result<Result<Asked<'a>, Answer>, NoMemory> {
     let mut program = program(alloc, language, words)?;
-    let matches = match program.try_get_matches_from_mut(words) {
-        Ok(matches) => matches,
-        Err(error) => return Ok(Err(answer_to(alloc, language, words, &mut program, &error)?)),
-    };
-    match asked_in(alloc, &matches)? {
-        Some(asked) if asked.request.overwrites_its_book() => Ok(Err(refuse(
-            alloc,
-            language,
-            &mut program,
-            &SAME_FILE,
-        )?)),
-        Some(asked) => Ok(Ok(asked)),
-        None => Ok(Err(refuse(alloc, language, &mut program, unasked(&matches))?)),
-    }
+    let read = read_by(alloc, language, words, &mut program);
+    drop(program);
+    read
 }
 
 /// What these words ask for, of which the first is the program's name, or what is said of them: in the language that `--lang` names among them, else

@@ -157,16 +157,65 @@ const COMPARE: Form = Form {
     statuses: &READS,
 };
 
+/// A command by its name alone.
+#[derive(Clone, Copy)]
+pub(crate) enum Name {
+    Count,
+    Steps,
+    Stage,
+    Check,
+    Code,
+    Run,
+    Law,
+    Explain,
+    Report,
+    Stages,
+    Totals,
+    Compare,
+}
+
+impl Name {
+    /// The command.
+    pub(crate) fn form(self) -> Form {
+        match self {
+            Name::Count => COUNT,
+            Name::Steps => STEPS,
+            Name::Stage => STAGE,
+            Name::Check => CHECK,
+            Name::Code => CODE,
+            Name::Run => RUN,
+            Name::Law => LAW,
+            Name::Explain => EXPLAIN,
+            Name::Report => REPORT,
+            Name::Stages => STAGES,
+            Name::Totals => TOTALS,
+            Name::Compare => COMPARE,
+        }
+    }
+}
+
 /// The commands, in the order in which the help lists them.
-pub const COMMANDS: [Form; 12] = [
-    COUNT, STEPS, STAGE, CHECK, CODE, RUN, LAW, EXPLAIN, REPORT, STAGES, TOTALS, COMPARE,
+pub(crate) const COMMANDS: [Name; 12] = [
+    Name::Count,
+    Name::Steps,
+    Name::Stage,
+    Name::Check,
+    Name::Code,
+    Name::Run,
+    Name::Law,
+    Name::Explain,
+    Name::Report,
+    Name::Stages,
+    Name::Totals,
+    Name::Compare,
 ];
 
-/// The command that a word names.
-pub(crate) fn named(word: &str) -> Option<Form> {
-    for form in &COMMANDS {
-        if form.name == word {
-            return Some(*form);
+/// The command of a name.
+pub(crate) fn named(name: &str) -> Option<Form> {
+    for command in COMMANDS {
+        let form = command.form();
+        if form.name == name {
+            return Some(form);
         }
     }
     None

@@ -78,7 +78,8 @@ fn command_row(alloc: Global, name: &str, about: &str) -> Result<Row, AllocError
 // The rows of the commands, and of the one that `clap` adds.
 fn command_rows(alloc: Global, language: Language) -> Result<Vec<Row>, AllocError> {
     let mut rows = Vec::new(alloc);
-    for form in &COMMANDS {
+    for command in COMMANDS {
+        let form = command.form();
         let about = form.about.in_language(language);
         rows.push(command_row(alloc, form.name, about)?)?;
     }

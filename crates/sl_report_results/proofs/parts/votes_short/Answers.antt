@@ -2,7 +2,6 @@ use Rattle.std.proofs.Common.{◌-◌, ◌*◌, arith, ap, ◌∙◌}
 use Rattle.std.specs.Int.{div_ceil}
 use Rattle.sl_report_results.proofs.Short.{least_is}
 use Rattle.sl_report_results.proofs.parts.votes_short.Goals as goal
-use Rattle.sl_report_results.proofs.parts.votes_short.Goals.{Then-more-from, Else-more-from}
 
 pub returns-then-more-from : goal.returns-then-more-from
 returns-then-more-from c =

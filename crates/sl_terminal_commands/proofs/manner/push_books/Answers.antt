@@ -1,4 +1,4 @@
-use Rattle.std.proofs.Common.{Some, [], ap, sym, ◌∙◌}
+use Rattle.std.proofs.Common.{Some, ap, sym, ◌∙◌}
 use Rattle.std.proofs.lemmas.Option.{slice_get-get_or}
 use Rattle.sl_report_tables.proofs.MoreRows.{pieces_next}
 use Rattle.sl_terminal_commands.specs.Digested.{named_digest}

@@ -1,4 +1,4 @@
-use Rattle.std.proofs.Common.{true, ap, refl, subst, sym}
+use Rattle.std.proofs.Common.{ap, refl, subst, sym}
 use Rattle.sl_blocks.specs.inner.Jobs.{IsGrowthJob}
 use Rattle.sl_blocks.specs.inner.Jobs.{IsGrowthPlan}
 use Rattle.sl_compile.proofs.Jobs.{is_growth_job, growth_blocks, growth_none}

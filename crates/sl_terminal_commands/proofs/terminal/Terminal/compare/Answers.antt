@@ -1,4 +1,4 @@
-use Rattle.std.proofs.Common.{All, Contains, IfOk, inl, inr, length, refl, subst, sym, ◌≡◌}
+use Rattle.std.proofs.Common.{All, Contains, IfOk, inl, inr, length, refl, subst, sym}
 use Rattle.sl_explain_calls.specs.Codes.{book_code, subject}
 use Rattle.sl_count_inputs.specs.declared.status.Input.TheVariants as input
 use Rattle.sl_count_inputs.specs.declared.status.Status.{Status}
