@@ -169,7 +169,9 @@ fn one_book(
         book: bytes_of(book),
         returns,
     };
-    shown(alloc, show, &judged, names, texts, style)
+    let written = shown(alloc, show, &judged, names, texts, style);
+    drop(judged);
+    written
 }
 
 /// What a book comes to on returns, in full. Inputs that `count` refuses are refused by the same line, and a legal fault has its line first.

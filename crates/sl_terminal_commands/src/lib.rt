@@ -11,6 +11,7 @@ mod manner;
 mod program;
 mod refused_books;
 mod reports;
+mod side_by_side;
 mod sums;
 mod telling;
 mod terminal;

@@ -1,37 +1,31 @@
-//! The commands that report of several rulebooks or of none: the sums of returns, and rulebooks side by side. Each input is read and judged once.
+//! Rulebooks and returns that are read, and the command that reports the sums of returns. Each input is read and judged once.
 
 ghost use Rattle.std.specs.Option.{option_map};
-ghost use Rattle.std.specs.Prelude.{◌≡◌, All, IfErr, IfOk, None, length, map, true};
+ghost use Rattle.std.specs.Prelude.{◌≡◌, All, IfErr, IfOk, None, map};
 ghost use Rattle.sl_explain_calls.specs.Codes.{book_code, election_code, subject};
 ghost use Rattle.sl_count_inputs.specs.Judging.{election_verdict, tree_verdict};
 ghost use Rattle.sl_count_inputs.specs.declared.status.Input.TheVariants as input;
 ghost use Rattle.sl_count_inputs.specs.declared.status.Status.TheVariants as status;
 ghost use Rattle.sl_count_inputs.specs.declared.verdict.Verdict.TheVariants.{Refused};
 ghost use Rattle.sl_terminal_commands.specs.Ends.{Ends, IsEarly, IsSilent};
-ghost use Rattle.sl_terminal_commands.specs.Sums.{AreJudged, IsOfComparison, IsOfSums, IsSummary, IsVerdictOn, given_word};
-ghost use Rattle.sl_terminal_commands.specs.Frames.{TellsNothing};
-ghost use Rattle.sl_terminal_commands.specs.Said.{OnlyWarns, Says, fault};
-ghost use Rattle.sl_terminal_commands.specs.inner.Verdicts.{IsDoneOrRefused, IsEndBy, IsEndOfAll, IsEndOn, IsOfBoth, IsOfCompared, IsOfElection, IsOfOneOf, IsOfTable, IsOfVaried};
+ghost use Rattle.sl_terminal_commands.specs.Sums.{AreJudged, IsOfSums, IsSummary, IsVerdictOn, given_word};
+ghost use Rattle.sl_terminal_commands.specs.Said.{Says, fault};
+ghost use Rattle.sl_terminal_commands.specs.inner.Verdicts.{IsDoneOrRefused, IsEndBy, IsEndOn, IsOfBoth, IsOfElection};
 
 use crate::failure::Failure;
-use crate::manner::{Manner, called_inputs, inputs_of};
-use crate::refused_books::{FirstRefused, explain_refused, first_refused};
+use crate::manner::{Manner, inputs_of};
+use crate::refused_books::{FirstRefused, explain_refused};
 use crate::reports::Writing;
 use crate::telling::ReadFile;
 use crate::terminal::Terminal;
-use crate::varied::{all_varied, behind, column_words, methods_of};
 use sl_count_inputs::{
-    Input, ReadBook, ReadReturns, RefusedBook, RefusedElection, Sink, Status, Verdict, read_book,
-    read_election,
+    Input, ReadBook, ReadReturns, RefusedElection, Sink, Status, Verdict, read_book, read_election,
 };
 use sl_explain_calls::explain_election;
-use sl_ratio::{Method, NoMemory};
-use sl_report_commands::{
-    Answer, Compared, FullNames, Language, compare_judged, compare_statutes, totals_answer,
-};
+use sl_ratio::Method;
+use sl_report_commands::{Answer, FullNames, totals_answer};
 use sl_stages::{CheckedBook, Returns};
 use sl_terminal_count::{Outside, open, open_book};
-use std::alloc::Global;
 
 /// A rulebook that was read, with the word that names it, and with the method that took the place of its own, if one did.
 #[derive(Drop)]
@@ -48,50 +42,6 @@ pub(crate) struct NamedReturns<'a> {
     pub(crate) read: ReadReturns,
 }
 
-// The rulebook of a verdict, if it is good.
-fn good_book(verdict: Verdict<CheckedBook, RefusedBook<'_>>) -> Option<CheckedBook> {
-    match verdict {
-        Verdict::Good(book) => Some(book),
-        Verdict::Refused(_) => None,
-    }
-}
-
-// The good ones of some rulebooks, under these words.
-fn good_books<'a>(
-    alloc: Global,
-    books: Vec<NamedBook<'_>>,
-    words: &'a [String],
-) -> Result<Vec<Compared<'a>>, NoMemory> {
-    let mut good: Vec<Compared<'a>> = Vec::new(alloc);
-    let mut words = words.iter();
-    for named in books {
-        let NamedBook { read, .. } = named;
-        let word = words.next().map_or("", |word| word.as_str());
-        if let Some(book) = good_book(read.verdict) {
-            good.push(Compared { word, book })?;
-        }
-    }
-    Ok(good)
-}
-
-// Good rulebooks on good returns, side by side; the statutes of the library where none is given.
-fn comparison(
-    alloc: Global,
-    books: Vec<NamedBook<'_>>,
-    returns: &Returns,
-    full: &FullNames,
-    language: Language,
-) -> Result<Answer, NoMemory>
-    ensures { IfOk result (λ a. IsDoneOrRefused a.status) }
-{
-    if books.is_empty() {
-        return compare_statutes(alloc, returns, full, language);
-    }
-    let words = column_words(alloc, books.as_slice())?;
-    let good = good_books(alloc, books, words.as_slice())?;
-    compare_judged(alloc, good, returns, full, language)
-}
-
 impl<O: Outside, W: Sink, E: Sink> Terminal<O, W, E> {
     // A rulebook: of the library if the word begins with `@`, else of the file at that path.
     fn book_at<'a>(&self, word: &'a str) -> Result<NamedBook<'a>, Failure<'a, O::Reason>>
@@ -106,7 +56,10 @@ impl<O: Outside, W: Sink, E: Sink> Terminal<O, W, E> {
         })
     }
 
-    fn books_at<'a>(&self, words: &[&'a str]) -> Result<Vec<NamedBook<'a>>, Failure<'a, O::Reason>>
+    pub(crate) fn books_at<'a>(
+        &self,
+        words: &[&'a str],
+    ) -> Result<Vec<NamedBook<'a>>, Failure<'a, O::Reason>>
         ensures words { IfOk result (λ books. map (λ b. b.word.now) books.items ≡ map (λ word. word.now) words.now) }
         ensures books { IfOk result (λ books. All (λ b. IsVerdictOn (O.bytes self.now.outside) b.word.now (tree_verdict b.read.verdict)) books.items) }
         ensures early { IfErr result IsEarly }
@@ -119,7 +72,10 @@ impl<O: Outside, W: Sink, E: Sink> Terminal<O, W, E> {
         Ok(books)
     }
 
-    fn returns_at<'a>(&self, path: &'a str) -> Result<NamedReturns<'a>, Failure<'a, O::Reason>>
+    pub(crate) fn returns_at<'a>(
+        &self,
+        path: &'a str,
+    ) -> Result<NamedReturns<'a>, Failure<'a, O::Reason>>
         ensures returns { IfOk result (λ r. AreJudged (O.bytes self.now.outside path.now) (election_verdict r.read.verdict)) }
         ensures early { IfErr result IsEarly }
     {
@@ -130,7 +86,7 @@ impl<O: Outside, W: Sink, E: Sink> Terminal<O, W, E> {
 
     // Refuses a rulebook, and tells of those after it that are refused too.
     #[tactic(auto, using(crate::proofs::Deliveries::ends_early))]
-    fn refuse_book<'a>(
+    pub(crate) fn refuse_book<'a>(
         &mut self,
         first: FirstRefused<'_, '_>,
         manner: Manner<'_>,
@@ -155,7 +111,7 @@ impl<O: Outside, W: Sink, E: Sink> Terminal<O, W, E> {
 
     // Refuses returns.
     #[tactic(auto, using(crate::proofs::Deliveries::ends_early))]
-    fn refuse_returns<'a>(
+    pub(crate) fn refuse_returns<'a>(
         &mut self,
         returns: &NamedReturns<'_>,
         refused: &RefusedElection,
@@ -249,6 +205,41 @@ impl<O: Outside, W: Sink, E: Sink> Terminal<O, W, E> {
         }
     }
 
+    // Adds up returns by a rulebook, both of which were read, with the full names of a file if one is given.
+    #[tactic(auto, using(crate::proofs::Deliveries::ends_early))]
+    fn totals_by<'a>(
+        &mut self,
+        book: &NamedBook<'_>,
+        returns: &NamedReturns<'_>,
+        writing: Writing<'a>,
+    ) -> Result<Status, Failure<'a, O::Reason>>
+        ensures ends { Ends (λ ends _. IsEndBy book.now.read.verdict returns.now.read.verdict ends) (W.contents self.old.out) (W.contents self.new.out) result }
+        ensures silent { IfOk result (λ ends. IsSilent self.old.is_quiet ends → self.new.err ≡ self.old.err) }
+        ensures told { IfOk result (λ _. IsOfBoth book.now.read.verdict returns.now.read.verdict (Says E.contents self.old self.new)) }
+    {
+        let names = self.full_names(writing.names)?;
+        let inputs = inputs_of(self.alloc, Some(book), returns, writing.style)?;
+        let manner = Manner::new("totals", writing.style, inputs.as_slice());
+        self.sum_up_by(book, returns, names, manner)
+    }
+
+    // The same without a rulebook.
+    #[tactic(auto, using(crate::proofs::Deliveries::ends_early))]
+    fn totals_alone<'a>(
+        &mut self,
+        returns: &NamedReturns<'_>,
+        writing: Writing<'a>,
+    ) -> Result<Status, Failure<'a, O::Reason>>
+        ensures ends { Ends (λ ends _. IsEndOn returns.now.read.verdict ends) (W.contents self.old.out) (W.contents self.new.out) result }
+        ensures silent { IfOk result (λ ends. IsSilent self.old.is_quiet ends → self.new.err ≡ self.old.err) }
+        ensures told { IfOk result (λ _. IsOfElection returns.now.read.verdict (Says E.contents self.old self.new)) }
+    {
+        let names = self.full_names(writing.names)?;
+        let inputs = inputs_of(self.alloc, None, returns, writing.style)?;
+        let manner = Manner::new("totals", writing.style, inputs.as_slice());
+        self.sum_up(None, returns, names, manner)
+    }
+
     /// Adds up returns, with a rulebook if one is given.
     #[tactic(auto, using(crate::proofs::Deliveries::ends_early))]
     pub(crate) fn report_totals<'a>(
@@ -267,162 +258,9 @@ impl<O: Outside, W: Sink, E: Sink> Terminal<O, W, E> {
         match book {
             Some(word) => {
                 let book = self.book_at(word)?;
-                let names = self.full_names(writing.names)?;
-                let inputs = inputs_of(self.alloc, Some(&book), &returns, writing.style)?;
-                let manner = Manner::new("totals", writing.style, inputs.as_slice());
-                self.sum_up_by(&book, &returns, names, manner)
+                self.totals_by(&book, &returns, writing)
             }
-            None => {
-                let names = self.full_names(writing.names)?;
-                let inputs = inputs_of(self.alloc, None, &returns, writing.style)?;
-                let manner = Manner::new("totals", writing.style, inputs.as_slice());
-                self.sum_up(None, &returns, names, manner)
-            }
+            None => self.totals_alone(&returns, writing),
         }
-    }
-
-    // Writes good rulebooks on good returns side by side, with full names; or the refusal of these.
-    #[tactic(auto, using(crate::proofs::Deliveries::ends_early))]
-    fn write_comparison<'a>(
-        &mut self,
-        books: Vec<NamedBook<'_>>,
-        election: &Returns,
-        names: Result<FullNames, Answer>,
-        manner: Manner<'_>,
-    ) -> Result<Status, Failure<'a, O::Reason>>
-        ensures ends { Ends (λ ends _. IsDoneOrRefused ends) (W.contents self.old.out) (W.contents self.new.out) result }
-        ensures untold { IfOk result (λ _. TellsNothing self.old self.new) }
-    {
-        match names {
-            Ok(full) => {
-                let language = manner.style.language;
-                let answer = comparison(self.alloc, books, election, &full, language)?;
-                let text = manner.text(self.alloc, &answer)?;
-                self.write_text(answer.status, text.as_slice())
-            }
-            Err(refusal) => {
-                let text = manner.text(self.alloc, &refusal)?;
-                self.write_text(Status::Refused, text.as_slice())
-            }
-        }
-    }
-
-    // Writes rulebooks side by side, and warns of the returns; or the refusal of the names.
-    fn finish_comparison<'a>(
-        &mut self,
-        books: Vec<NamedBook<'_>>,
-        election: &Returns,
-        names: Result<FullNames, Answer>,
-        manner: Manner<'_>,
-    ) -> Result<Status, Failure<'a, O::Reason>>
-        ensures ends { Ends (λ ends _. IsDoneOrRefused ends) (W.contents self.old.out) (W.contents self.new.out) result }
-        ensures quiet { IfOk result (λ _. self.old.is_quiet ≡ true → self.new.err ≡ self.old.err) }
-        ensures told { IfOk result (λ _. IsOfTable election.now (Says E.contents self.old self.new)) }
-    {
-        let status = self.write_comparison(books, election, names, manner)?;
-        if status == Status::Done {
-            self.warn(None, election);
-        }
-        Ok(status)
-    }
-
-    // Refuses the first of some rulebooks, if it is refused, and else the returns.
-    fn refuse_comparison<'a>(
-        &mut self,
-        books: &[NamedBook<'_>],
-        returns: &NamedReturns<'_>,
-        refused: &RefusedElection,
-        manner: Manner<'_>,
-    ) -> Result<Status, Failure<'a, O::Reason>>
-        ensures ends { Ends (λ ends _. ends ≡ status.Refused) (W.contents self.old.out) (W.contents self.new.out) result }
-        ensures silent { IfOk result (λ ends. IsSilent self.old.is_quiet ends → self.new.err ≡ self.old.err) }
-        ensures told { IfOk result (λ _. IsOfOneOf books.now (Refused refused.now) (Says E.contents self.old self.new)) }
-    {
-        if let Some(book) = books.first()
-            && let Verdict::Refused(refused) = &book.read.verdict
-        {
-            let first = FirstRefused {
-                book,
-                refused,
-                further: &books[1..],
-            };
-            return self.refuse_book(first, manner);
-        }
-        self.refuse_returns(returns, refused, manner)
-    }
-
-    // Puts good rulebooks side by side, and after them the same with each of these methods; or refuses one that fails a test so.
-    fn compare_varied<'a>(
-        &mut self,
-        books: Vec<NamedBook<'_>>,
-        methods: &[Method],
-        election: &Returns,
-        names: Result<FullNames, Answer>,
-        manner: Manner<'_>,
-    ) -> Result<Status, Failure<'a, O::Reason>>
-        ensures ends { Ends (λ ends _. IsDoneOrRefused ends) (W.contents self.old.out) (W.contents self.new.out) result }
-        ensures quiet { IfOk result (λ _. self.old.is_quiet ≡ true → self.new.err ≡ self.old.err) }
-        ensures done { IfOk result (λ ends. ends ≡ status.Done → OnlyWarns E.contents self.old self.new) }
-        ensures told { IfOk result (λ _. IsOfVaried (length methods.now) books.entry.items election.now (Says E.contents self.old self.new)) }
-    {
-        let varied = all_varied(self.alloc, books.as_slice(), methods)?;
-        match first_refused(varied.as_slice()) {
-            Some(first) => self.refuse_book(first, manner),
-            None => {
-                let all = behind(books, varied)?;
-                self.finish_comparison(all, election, names, manner)
-            }
-        }
-    }
-
-    // Puts rulebooks side by side, also with each of these methods, or refuses one of them or the returns. Before returns that are refused the first
-    // rulebook alone may be.
-    fn compare<'a>(
-        &mut self,
-        books: Vec<NamedBook<'_>>,
-        methods: &[Method],
-        returns: &NamedReturns<'_>,
-        names: Result<FullNames, Answer>,
-        manner: Manner<'_>,
-    ) -> Result<Status, Failure<'a, O::Reason>>
-        ensures ends { Ends (λ ends _. IsEndOfAll books.entry.items returns.now.read.verdict ends) (W.contents self.old.out) (W.contents self.new.out) result }
-        ensures quiet { IfOk result (λ _. self.old.is_quiet ≡ true → self.new.err ≡ self.old.err) }
-        ensures done { IfOk result (λ ends. ends ≡ status.Done → OnlyWarns E.contents self.old self.new) }
-        ensures told { IfOk result (λ _. IsOfCompared (length methods.now) books.entry.items returns.now.read.verdict (Says E.contents self.old self.new)) }
-    {
-        match &returns.read.verdict {
-            Verdict::Good(election) => match first_refused(books.as_slice()) {
-                Some(first) => self.refuse_book(first, manner),
-                None => self.compare_varied(books, methods, election, names, manner),
-            },
-            Verdict::Refused(refused) => {
-                self.refuse_comparison(books.as_slice(), returns, refused, manner)
-            }
-        }
-    }
-
-    /// Puts the rulebooks of some words side by side, also with the methods of other words, or those of the library where there are none.
-    #[tactic(auto, using(crate::proofs::Deliveries::ends_early))]
-    pub(crate) fn report_comparison<'a>(
-        &mut self,
-        returns: &'a str,
-        books: &[&'a str],
-        methods: &[&'a str],
-        writing: Writing<'a>,
-    ) -> Result<Status, Failure<'a, O::Reason>>
-        ensures ends { Ends (λ ends _. IsSummary (O.bytes self.old.outside) returns.now (map (λ word. word.now) books.now) ends)
-            (W.contents self.old.out) (W.contents self.new.out) result }
-        ensures quiet { IfOk result (λ _. self.old.is_quiet ≡ true → self.new.err ≡ self.old.err) }
-        ensures done { IfOk result (λ ends. ends ≡ status.Done → OnlyWarns E.contents self.old self.new) }
-        ensures told { IfOk result (λ _. IsOfComparison (O.bytes self.old.outside) returns.now (map (λ word. word.now) books.now) (map (λ word. word.now) methods.now)
-            (Says E.contents self.old self.new)) }
-    {
-        let returns = self.returns_at(returns)?;
-        let books = self.books_at(books)?;
-        let methods = methods_of(self.alloc, methods)?;
-        let names = self.full_names(writing.names)?;
-        let inputs = called_inputs(self.alloc, books.as_slice(), &returns, writing.style)?;
-        let manner = Manner::new("compare", writing.style, inputs.as_slice());
-        self.compare(books, methods.as_slice(), &returns, names, manner)
     }
 }

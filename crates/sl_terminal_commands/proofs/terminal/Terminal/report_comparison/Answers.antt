@@ -16,13 +16,13 @@ returns-clause-ends g c =
     let returns = c.in_ok-returns.returns.read.verdict in
     let books = c.in_ok-books.books.items in
     ends_wider (λ ends text. IsEndOfAll books returns ends) (λ ends text. IsSummary bytes path (map (λ (word : Bor (List ℕ)). word.now) c.args.books.now) ends)
-    (g.W.Sink.contents c.args.self.now.out) (g.W.Sink.contents c.compare.new.self.out) c.compare.result
+    (g.W.Sink.contents c.args.self.now.out) (g.W.Sink.contents c.compare_read.new.self.out) c.compare_read.result
     (
     λ ends text is.
     subst (λ words. IsSummary bytes path words ends) c.in_ok-books.ensures.words
     (summed_all bytes path returns c.in_ok-returns.ensures.returns books c.in_ok-books.ensures.books ends is)
     )
-    c.compare.ensures.ends
+    c.compare_read.ensures.ends
 
 pub returns-clause-told : goal.returns-clause-told
 returns-clause-told g c =
@@ -30,15 +30,15 @@ returns-clause-told g c =
     let path = c.args.returns.now in
     let returns = c.in_ok-returns.returns.read.verdict in
     let books = c.in_ok-books.books.items in
-    let says = Says g.E.Sink.contents c.args.self.now c.compare.new.self in
+    let says = Says g.E.Sink.contents c.args.self.now c.compare_read.new.self in
     let methods = map (λ (word : Bor (List ℕ)). word.now) c.args.methods.now in
     let given = length c.in_ok-methods.methods.items in
     let few : given ≤ length methods = omega (arith, c.in_ok-methods.ensures, length-map c.args.methods.now (λ (word : Bor (List ℕ)). word.now)) in
     ok_wider (λ (ends : Status). IsOfCompared given books returns says)
-    (λ (ends : Status). IsOfComparison bytes path (map (λ (word : Bor (List ℕ)). word.now) c.args.books.now) methods says) c.compare.result
+    (λ (ends : Status). IsOfComparison bytes path (map (λ (word : Bor (List ℕ)). word.now) c.args.books.now) methods says) c.compare_read.result
     (
     λ ends of.
     subst (λ words. IsOfComparison bytes path words methods says) c.in_ok-books.ensures.words
     (of_compared bytes path returns c.in_ok-returns.ensures.returns says books c.in_ok-books.ensures.books methods given few of)
     )
-    (subst (λ all. IfOk c.compare.result (λ ends. IsOfCompared (length all) books returns says)) c.as_slice-3.ensures.value c.compare.ensures.told)
+    (subst (λ all. IfOk c.compare_read.result (λ ends. IsOfCompared (length all) books returns says)) c.as_slice.ensures.value c.compare_read.ensures.told)

@@ -18,11 +18,11 @@ returns-in-Some-clause-ends g c =
     let book = c.in_ok-book-in-Some.book.read.verdict in
     let word = c.in-Some.word.now in
     let old = g.W.Sink.contents c.args.self.now.out in
-    let new = g.W.Sink.contents c.sum_up_by.new.self.out in
+    let new = g.W.Sink.contents c.totals_by.new.self.out in
     let ends =
-    ends_wider (λ ends text. IsEndBy book returns ends) (λ ends text. IsSummary bytes path (word ∷ []) ends) old new c.sum_up_by.result
-    (λ ends text is. summed_by bytes path returns c.in_ok-returns.ensures.returns word book c.in_ok-book-in-Some.ensures.book.1 ends is) c.sum_up_by.ensures.ends in
-    subst (λ given. Ends (λ ends text. IsSummary bytes path (given_word (option_map (λ (word : Bor (List ℕ)). word.now) given)) ends) old new c.sum_up_by.result)
+    ends_wider (λ ends text. IsEndBy book returns ends) (λ ends text. IsSummary bytes path (word ∷ []) ends) old new c.totals_by.result
+    (λ ends text is. summed_by bytes path returns c.in_ok-returns.ensures.returns word book c.in_ok-book-in-Some.ensures.book.1 ends is) c.totals_by.ensures.ends in
+    subst (λ given. Ends (λ ends text. IsSummary bytes path (given_word (option_map (λ (word : Bor (List ℕ)). word.now) given)) ends) old new c.totals_by.result)
     (sym c.in-Some.is) ends
 
 pub returns-in-Some-clause-told : goal.returns-in-Some-clause-told
@@ -32,11 +32,11 @@ returns-in-Some-clause-told g c =
     let returns = c.in_ok-returns.returns.read.verdict in
     let book = c.in_ok-book-in-Some.book.read.verdict in
     let word = c.in-Some.word.now in
-    let says = Says g.E.Sink.contents c.args.self.now c.sum_up_by.new.self in
+    let says = Says g.E.Sink.contents c.args.self.now c.totals_by.new.self in
     let told =
-    ok_wider (λ (ends : Status). IsOfBoth book returns says) (λ (ends : Status). IsOfSums bytes path (word ∷ []) says) c.sum_up_by.result
-    (λ ends of. of_both bytes path returns c.in_ok-returns.ensures.returns says word book c.in_ok-book-in-Some.ensures.book.1 of) c.sum_up_by.ensures.told in
-    subst (λ given. IfOk c.sum_up_by.result (λ ends. IsOfSums bytes path (given_word (option_map (λ (word : Bor (List ℕ)). word.now) given)) says))
+    ok_wider (λ (ends : Status). IsOfBoth book returns says) (λ (ends : Status). IsOfSums bytes path (word ∷ []) says) c.totals_by.result
+    (λ ends of. of_both bytes path returns c.in_ok-returns.ensures.returns says word book c.in_ok-book-in-Some.ensures.book.1 of) c.totals_by.ensures.told in
+    subst (λ given. IfOk c.totals_by.result (λ ends. IsOfSums bytes path (given_word (option_map (λ (word : Bor (List ℕ)). word.now) given)) says))
     (sym c.in-Some.is) told
 
 pub returns-clause-told : goal.returns-clause-told
@@ -44,7 +44,7 @@ returns-clause-told g c =
     let bytes = g.O.Outside.bytes c.args.self.now.outside in
     let path = c.args.returns.now in
     let returns = c.in_ok-returns.returns.read.verdict in
-    let says = Says g.E.Sink.contents c.args.self.now c.sum_up.new.self in
+    let says = Says g.E.Sink.contents c.args.self.now c.totals_alone.new.self in
     let words = given_word (option_map (λ (word : Bor (List ℕ)). word.now) c.args.book) in
-    ok_wider (λ (ends : Status). IsOfElection returns says) (λ (ends : Status). IsOfSums bytes path words says) c.sum_up.result
-    (λ ends of. of_election bytes path returns c.in_ok-returns.ensures.returns says words of) c.sum_up.ensures.told
+    ok_wider (λ (ends : Status). IsOfElection returns says) (λ (ends : Status). IsOfSums bytes path words says) c.totals_alone.result
+    (λ ends of. of_election bytes path returns c.in_ok-returns.ensures.returns says words of) c.totals_alone.ensures.told

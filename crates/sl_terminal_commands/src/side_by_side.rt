@@ -1,0 +1,232 @@
+//! The command that puts rulebooks side by side on returns. Each input is read and judged once.
+
+ghost use Rattle.std.specs.Prelude.{◌≡◌, IfOk, None, length, map, true};
+ghost use Rattle.sl_count_inputs.specs.declared.status.Status.TheVariants as status;
+ghost use Rattle.sl_count_inputs.specs.declared.verdict.Verdict.TheVariants.{Refused};
+ghost use Rattle.sl_terminal_commands.specs.Ends.{Ends, IsSilent};
+ghost use Rattle.sl_terminal_commands.specs.Sums.{IsOfComparison, IsSummary};
+ghost use Rattle.sl_terminal_commands.specs.Frames.{TellsNothing};
+ghost use Rattle.sl_terminal_commands.specs.Said.{OnlyWarns, Says};
+ghost use Rattle.sl_terminal_commands.specs.inner.Verdicts.{IsDoneOrRefused, IsEndOfAll, IsOfCompared, IsOfOneOf, IsOfTable, IsOfVaried};
+
+use crate::failure::Failure;
+use crate::manner::{Manner, called_inputs};
+use crate::refused_books::{FirstRefused, first_refused};
+use crate::reports::Writing;
+use crate::sums::{NamedBook, NamedReturns};
+use crate::terminal::Terminal;
+use crate::varied::{all_varied, behind, column_words, methods_of};
+use sl_count_inputs::{RefusedBook, RefusedElection, Sink, Status, Verdict};
+use sl_ratio::{Method, NoMemory};
+use sl_report_commands::{Answer, Compared, FullNames, Language, compare_judged, compare_statutes};
+use sl_stages::{CheckedBook, Returns};
+use sl_terminal_count::Outside;
+use std::alloc::Global;
+
+// The rulebook of a verdict, if it is good.
+fn good_book(verdict: Verdict<CheckedBook, RefusedBook<'_>>) -> Option<CheckedBook> {
+    match verdict {
+        Verdict::Good(book) => Some(book),
+        Verdict::Refused(_) => None,
+    }
+}
+
+// The good ones of some rulebooks, under these words.
+fn good_books<'a>(
+    alloc: Global,
+    books: Vec<NamedBook<'_>>,
+    words: &'a [String],
+) -> Result<Vec<Compared<'a>>, NoMemory> {
+    let mut good: Vec<Compared<'a>> = Vec::new(alloc);
+    let mut words = words.iter();
+    for named in books {
+        let NamedBook { read, .. } = named;
+        let word = words.next().map_or("", |word| word.as_str());
+        if let Some(book) = good_book(read.verdict) {
+            good.push(Compared { word, book })?;
+        }
+    }
+    Ok(good)
+}
+
+// Good rulebooks on good returns, side by side; the statutes of the library where none is given.
+fn comparison(
+    alloc: Global,
+    books: Vec<NamedBook<'_>>,
+    returns: &Returns,
+    full: &FullNames,
+    language: Language,
+) -> Result<Answer, NoMemory>
+    ensures { IfOk result (λ a. IsDoneOrRefused a.status) }
+{
+    if books.is_empty() {
+        return compare_statutes(alloc, returns, full, language);
+    }
+    let words = column_words(alloc, books.as_slice())?;
+    let good = good_books(alloc, books, words.as_slice())?;
+    compare_judged(alloc, good, returns, full, language)
+}
+
+impl<O: Outside, W: Sink, E: Sink> Terminal<O, W, E> {
+    // Writes good rulebooks on good returns side by side, with full names; or the refusal of these.
+    #[tactic(auto, using(crate::proofs::Deliveries::ends_early))]
+    fn write_comparison<'a>(
+        &mut self,
+        books: Vec<NamedBook<'_>>,
+        election: &Returns,
+        names: Result<FullNames, Answer>,
+        manner: Manner<'_>,
+    ) -> Result<Status, Failure<'a, O::Reason>>
+        ensures ends { Ends (λ ends _. IsDoneOrRefused ends) (W.contents self.old.out) (W.contents self.new.out) result }
+        ensures untold { IfOk result (λ _. TellsNothing self.old self.new) }
+    {
+        match names {
+            Ok(full) => {
+                let language = manner.style.language;
+                let answer = comparison(self.alloc, books, election, &full, language)?;
+                let text = manner.text(self.alloc, &answer)?;
+                self.write_text(answer.status, text.as_slice())
+            }
+            Err(refusal) => {
+                let text = manner.text(self.alloc, &refusal)?;
+                self.write_text(Status::Refused, text.as_slice())
+            }
+        }
+    }
+
+    // Writes rulebooks side by side, and warns of the returns; or the refusal of the names.
+    fn finish_comparison<'a>(
+        &mut self,
+        books: Vec<NamedBook<'_>>,
+        election: &Returns,
+        names: Result<FullNames, Answer>,
+        manner: Manner<'_>,
+    ) -> Result<Status, Failure<'a, O::Reason>>
+        ensures ends { Ends (λ ends _. IsDoneOrRefused ends) (W.contents self.old.out) (W.contents self.new.out) result }
+        ensures quiet { IfOk result (λ _. self.old.is_quiet ≡ true → self.new.err ≡ self.old.err) }
+        ensures told { IfOk result (λ _. IsOfTable election.now (Says E.contents self.old self.new)) }
+    {
+        let status = self.write_comparison(books, election, names, manner)?;
+        if status == Status::Done {
+            self.warn(None, election);
+        }
+        Ok(status)
+    }
+
+    // Refuses the first of some rulebooks, if it is refused, and else the returns.
+    fn refuse_comparison<'a>(
+        &mut self,
+        books: &[NamedBook<'_>],
+        returns: &NamedReturns<'_>,
+        refused: &RefusedElection,
+        manner: Manner<'_>,
+    ) -> Result<Status, Failure<'a, O::Reason>>
+        ensures ends { Ends (λ ends _. ends ≡ status.Refused) (W.contents self.old.out) (W.contents self.new.out) result }
+        ensures silent { IfOk result (λ ends. IsSilent self.old.is_quiet ends → self.new.err ≡ self.old.err) }
+        ensures told { IfOk result (λ _. IsOfOneOf books.now (Refused refused.now) (Says E.contents self.old self.new)) }
+    {
+        if let Some(book) = books.first()
+            && let Verdict::Refused(refused) = &book.read.verdict
+        {
+            let first = FirstRefused {
+                book,
+                refused,
+                further: &books[1..],
+            };
+            return self.refuse_book(first, manner);
+        }
+        self.refuse_returns(returns, refused, manner)
+    }
+
+    // Puts good rulebooks side by side, and after them the same with each of these methods; or refuses one that fails a test so.
+    fn compare_varied<'a>(
+        &mut self,
+        books: Vec<NamedBook<'_>>,
+        methods: &[Method],
+        election: &Returns,
+        names: Result<FullNames, Answer>,
+        manner: Manner<'_>,
+    ) -> Result<Status, Failure<'a, O::Reason>>
+        ensures ends { Ends (λ ends _. IsDoneOrRefused ends) (W.contents self.old.out) (W.contents self.new.out) result }
+        ensures quiet { IfOk result (λ _. self.old.is_quiet ≡ true → self.new.err ≡ self.old.err) }
+        ensures done { IfOk result (λ ends. ends ≡ status.Done → OnlyWarns E.contents self.old self.new) }
+        ensures told { IfOk result (λ _. IsOfVaried (length methods.now) books.entry.items election.now (Says E.contents self.old self.new)) }
+    {
+        let varied = all_varied(self.alloc, books.as_slice(), methods)?;
+        match first_refused(varied.as_slice()) {
+            Some(first) => self.refuse_book(first, manner),
+            None => {
+                let all = behind(books, varied)?;
+                self.finish_comparison(all, election, names, manner)
+            }
+        }
+    }
+
+    // Puts rulebooks side by side, also with each of these methods, or refuses one of them or the returns. Before returns that are refused the first
+    // rulebook alone may be.
+    fn compare<'a>(
+        &mut self,
+        books: Vec<NamedBook<'_>>,
+        methods: &[Method],
+        returns: &NamedReturns<'_>,
+        names: Result<FullNames, Answer>,
+        manner: Manner<'_>,
+    ) -> Result<Status, Failure<'a, O::Reason>>
+        ensures ends { Ends (λ ends _. IsEndOfAll books.entry.items returns.now.read.verdict ends) (W.contents self.old.out) (W.contents self.new.out) result }
+        ensures quiet { IfOk result (λ _. self.old.is_quiet ≡ true → self.new.err ≡ self.old.err) }
+        ensures done { IfOk result (λ ends. ends ≡ status.Done → OnlyWarns E.contents self.old self.new) }
+        ensures told { IfOk result (λ _. IsOfCompared (length methods.now) books.entry.items returns.now.read.verdict (Says E.contents self.old self.new)) }
+    {
+        match &returns.read.verdict {
+            Verdict::Good(election) => match first_refused(books.as_slice()) {
+                Some(first) => self.refuse_book(first, manner),
+                None => self.compare_varied(books, methods, election, names, manner),
+            },
+            Verdict::Refused(refused) => {
+                self.refuse_comparison(books.as_slice(), returns, refused, manner)
+            }
+        }
+    }
+
+    // Puts rulebooks side by side, also with each of these methods, where all was read, with the full names of a file if one is given.
+    #[tactic(auto, using(crate::proofs::Deliveries::ends_early))]
+    fn compare_read<'a>(
+        &mut self,
+        books: Vec<NamedBook<'_>>,
+        methods: &[Method],
+        returns: &NamedReturns<'_>,
+        writing: Writing<'a>,
+    ) -> Result<Status, Failure<'a, O::Reason>>
+        ensures ends { Ends (λ ends _. IsEndOfAll books.entry.items returns.now.read.verdict ends) (W.contents self.old.out) (W.contents self.new.out) result }
+        ensures quiet { IfOk result (λ _. self.old.is_quiet ≡ true → self.new.err ≡ self.old.err) }
+        ensures done { IfOk result (λ ends. ends ≡ status.Done → OnlyWarns E.contents self.old self.new) }
+        ensures told { IfOk result (λ _. IsOfCompared (length methods.now) books.entry.items returns.now.read.verdict (Says E.contents self.old self.new)) }
+    {
+        let names = self.full_names(writing.names)?;
+        let inputs = called_inputs(self.alloc, books.as_slice(), returns, writing.style)?;
+        let manner = Manner::new("compare", writing.style, inputs.as_slice());
+        self.compare(books, methods, returns, names, manner)
+    }
+
+    /// Puts the rulebooks of some words side by side, also with the methods of other words, or those of the library where there are none.
+    #[tactic(auto, using(crate::proofs::Deliveries::ends_early))]
+    pub(crate) fn report_comparison<'a>(
+        &mut self,
+        returns: &'a str,
+        books: &[&'a str],
+        methods: &[&'a str],
+        writing: Writing<'a>,
+    ) -> Result<Status, Failure<'a, O::Reason>>
+        ensures ends { Ends (λ ends _. IsSummary (O.bytes self.old.outside) returns.now (map (λ word. word.now) books.now) ends)
+            (W.contents self.old.out) (W.contents self.new.out) result }
+        ensures quiet { IfOk result (λ _. self.old.is_quiet ≡ true → self.new.err ≡ self.old.err) }
+        ensures done { IfOk result (λ ends. ends ≡ status.Done → OnlyWarns E.contents self.old self.new) }
+        ensures told { IfOk result (λ _. IsOfComparison (O.bytes self.old.outside) returns.now (map (λ word. word.now) books.now) (map (λ word. word.now) methods.now)
+            (Says E.contents self.old self.new)) }
+    {
+        let returns = self.returns_at(returns)?;
+        let books = self.books_at(books)?;
+        let methods = methods_of(self.alloc, methods)?;
+        self.compare_read(books, methods.as_slice(), &returns, writing)
+    }
+}
