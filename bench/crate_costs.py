@@ -4,10 +4,10 @@
     python3 bench/crate_costs.py COMMAND ..
 
 It runs a command that proves crates, such as `rt ci` or `./seatlaw help`, and meanwhile adds up the processor seconds of each process of the prover,
-by its crate. An edit that must fail proves its crate once more; it has a column of its own. The chain of a crate is what its own proof takes and the
-longest chain of a crate below it: so long it takes with as many processors as crates. Above it stand the crates that are proved again when its
-contracts change. Crates that are kept from earlier runs cost nothing: for the costs of all, run it where nothing is kept. It needs Linux. Nothing
-else should run.
+by its crate. An edit that must fail proves its crate once more; it has a column of its own, in which the whole proof of the static library is too.
+The chain of a crate is what its own proof takes and the longest chain of a crate below it: so long it takes with as many processors as crates. Above
+it stand the crates that are proved again when its contracts change. Crates that are kept from earlier runs cost nothing: for the costs of all, run it
+where nothing is kept. It needs Linux. Nothing else should run.
 """
 import collections
 import os
@@ -46,7 +46,8 @@ def work_of(number):
         return None
     if "--crate-name" not in words or PROOF not in words and EDITS not in words:
         return None
-    return words[words.index("--crate-name") + 1], PROOF if PROOF in words else EDITS
+    crate = words[words.index("--crate-name") + 1]
+    return crate, PROOF if PROOF in words or not (CRATES / crate / "must-fail").is_dir() else EDITS
 
 
 class Sampled:
