@@ -141,7 +141,7 @@ struct seatlaw_template {
 
 /* Counts, for each row of numbers, the returns that have the row's numbers at their places, by `seatlaw_count`.
  *
- * The numbers of all rows stand one behind the other, `rows` times `returns->width`. Of a row with a table, `statuses` gets 0, and `seats` gets
+ * The numbers of all rows stand in sequence, `rows` times `returns->width`. Of a row with a table, `statuses` gets 0, and `seats` gets
  * the numbers of its lines `total`, `party` and `list`, in their order: one of the total, and of each party and each list its seats and its
  * winners. They must be `seats_width` numbers, or the status is SEATLAW_OTHER_SHAPE. Of any other row `statuses` gets its status, and `seats`
  * gets -1 everywhere. The rows are counted one after the other; calls on parts of the rows may run at once.

@@ -124,7 +124,7 @@ def without_explanation(said):
 
 
 def run(program, words, folder, out=subprocess.PIPE, err=subprocess.PIPE):
-    """What a command writes on the two, as far as they are pipes of its own, and its status. An explanation is left away."""
+    """What a command writes on the two, as far as they are pipes of its own, and its status. Without the explanation."""
     child = start(program, words, folder, out, err)
     try:
         wrote, said = child.communicate(timeout=LIMIT)

@@ -131,7 +131,7 @@ class Stuck(User):
         answer = self.run("window.page.ask('nonsense').then(answer => [answer.status, answer.error])")
         self.expect("the status of no call", answer[0], 8)
         self.expect_in("its error", "nonsense", answer[1])
-        self.expect("the status of want of memory", self.run("window.page.statusOf(new RangeError('WebAssembly.Memory(): could not allocate memory'))"), 5)
+        self.expect("the status of out of memory", self.run("window.page.statusOf(new RangeError('WebAssembly.Memory(): could not allocate memory'))"), 5)
 
     def memory_is_given_back(self):
         self.expect("whether a memory of 300 MB is given back", self.run("(async () => { const desk = new window.page.Desk(await WebAssembly.compile(await window.page.unpacked('module'))); desk.call('check', [new Uint8Array(300 << 20)]); return desk.calls === null; })()"), True)

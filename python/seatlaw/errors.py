@@ -1,4 +1,4 @@
-"""What a call raises where it has no result: refusals, legal faults, and want of memory."""
+"""What a call raises where it has no result: refusals, legal faults, and out of memory."""
 import dataclasses
 import functools
 import re

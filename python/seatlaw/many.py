@@ -173,7 +173,7 @@ class Variations:
         """The text with the numbers that the returns have is counted as the returns are."""
         whole = ask("count", self.book.data, self.returns.data)
         if ask("count", self.book.data, self.returns_of(self.base).data) != whole:
-            raise SeatlawError("these returns cannot be varied: written anew they are counted otherwise")
+            raise SeatlawError("these returns cannot be varied: written again they are counted otherwise")
 
     def returns_of(self, row: Any) -> Returns:
         """The returns with the numbers of a row."""

@@ -98,7 +98,7 @@ const shapes = (() => {
   // An entry of the report, by the Land and the party that it has.
   const ofRow = row => (row.land !== null ? (row.party !== null ? "list" : "land") : row.party !== null ? "party" : "win");
 
-  // The shape of each stage that gives out seats over all, by its name.
+  // The shape of each stage that distributes seats over all, by its name.
   const of = ({ report }) => new Map(((report && report.entries) || []).filter(row => row.scope === "all").map(row => [row.stage, ofRow(row)]));
 
   // What an entry is, by its stage, its scope and its name.

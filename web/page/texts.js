@@ -29,7 +29,7 @@ const TEXTS = {
   unreadable: ["{0} kann nicht gelesen werden (ein Ordner?): {1}", "{0} cannot be read (a folder?): {1}"],
   refusedNames: [
     "Die Namen in {0} sind zurückgewiesen: {1}. Jede Zeile hat zwei Zellen, den kurzen und den vollen Namen, getrennt durch ein Komma, in UTF-8; ein Komma im Namen steht in Anführungszeichen.",
-    "The names in {0} are refused: {1}. Each line has two cells, the short name and the full one, parted by a comma, in UTF-8; a comma within a name stands in quotes.",
+    "The names in {0} are refused: {1}. Each line has two cells, the short name and the full one, separated by a comma, in UTF-8; a comma within a name stands in quotes.",
   ],
   bytes: ["{0} Bytes", "{0} bytes"],
   // elections to begin with
@@ -83,7 +83,7 @@ const TEXTS = {
     "A line for each Land (a: people), each party (a: 1 for a national minority), each list (a: valid, b: counted votes) and each winner of a constituency (a: constituency, b: first votes, c: valid first votes). house changes the number of seats.",
   ],
   template: ["Vorlage herunterladen", "Download a template"],
-  clear: ["Neu beginnen", "Begin anew"],
+  clear: ["Neu beginnen", "Start over"],
   noReturns: ["Noch kein Wahlergebnis.", "No returns yet."],
   taken: ["{0} Datensätze, {1} Bytes.", "{0} records, {1} bytes."],
   pasted: ["eingefügter Text", "pasted text"],

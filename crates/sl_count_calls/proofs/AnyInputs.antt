@@ -1,11 +1,11 @@
 -- What is shown of what inputs come to is what is shown of the inputs.
 use Rattle.std.proofs.Common.{◌≡◌, ◌⊎◌, ℕ, Err, IfErr, IfOk, IfSome, List, None, Ok, Option, Result, Some, if◌then◌else◌, inl, inr, is_some, refl, sym, ap, subst, ◌∙◌}
-use Rattle.sl_count_outcomes.specs.Fitting.{FitsJudged}
-use Rattle.sl_count_outcomes.specs.Judged.{IsCounting, IsJudged, unknown_in}
-use Rattle.sl_count_outcomes.specs.Reading.{IsNoGoodBook as IsNone, ReadsAfter}
-use Rattle.sl_count_outcomes.specs.declared.counting.Counting.{Counting}
-use Rattle.sl_count_outcomes.specs.declared.judged.Judged.TheVariants as judged
-use Rattle.sl_count_outcomes.specs.declared.judged.Judged.{Judged}
+use Rattle.sl_count_calls.specs.Fitting.{FitsJudged}
+use Rattle.sl_count_calls.specs.Judged.{IsCounting, IsJudged, unknown_in}
+use Rattle.sl_count_calls.specs.Reading.{IsNoGoodBook as IsNone, ReadsAfter}
+use Rattle.sl_count_calls.specs.declared.counting.Counting.{Counting}
+use Rattle.sl_count_calls.specs.declared.judged.Judged.TheVariants as judged
+use Rattle.sl_count_calls.specs.declared.judged.Judged.{Judged}
 use Rattle.sl_stages.specs.declared.count.Records.{Records}
 use Rattle.sl_count_calls.specs.Counting.{IsNoGoodBook}
 use Rattle.sl_stages.specs.meaning.Counts.{IsMeantEnd}
@@ -159,6 +159,16 @@ module _ {R X Y : Type 0} (remaining : R → Option (List ℕ)) (book : Option B
     shown_reads (Stage name) h =
         behind_as (IsNone (Some name.now)) (IsNoBookWith name.now)
         (λ i bad. λ tree good there. let n = numbered (stage_number name.now tree) name.now there in bad tree n.0 good n.1) h
+
+-- a call that goes on has read what was read to show it, whatever it answers
+module _ {R X Y : Type 0} (remaining : R → Option (List ℕ)) (book : Option BookInput) (old new : R) (r : Result X DeskError) (y : Y) where
+  goes_on : (IsBad : BookInput → Type 0) → ReadsBehind remaining input.Book book IsBad old new r → ReadsBehind remaining input.Book book IsBad old new (Ok y)
+  goes_on IsBad h = behind_as remaining book old new r (Ok y) (λ i read. absurd cc) IsBad IsBad (λ i bad. bad) h
+
+  pub still_shown : (view : View) → ReadsBehindShown view remaining book old new r → ReadsBehindShown view remaining book old new (Ok y)
+  still_shown Seats h = goes_on IsNoGoodBook h
+  still_shown Steps h = goes_on IsNoGoodBook h
+  still_shown (Stage name) h = goes_on (IsNoBookWith name.now) h
 
 pub same_error : {X Y : Type 0} (e : DeskError) (r : Result X DeskError) (s : Result Y DeskError) → r ≡ Err e → s ≡ Err e → (i : Input) → s ≡ Err (fault.Read i) → r ≡ Err (fault.Read i)
 same_error e r s first second i read = let this : e ≡ fault.Read i = cc in first ∙ ap (λ (x : DeskError). Err x) this

@@ -3,7 +3,7 @@ use Rattle.std.proofs.Common.{◌≡◌, ◌<◌, ℕ, zero, suc, Err, IfOk, Lis
 use Rattle.std.proofs.lemmas.List.{length-map}
 use Rattle.std.proofs.lemmas.Option.{slice_get-get_or}
 use Rattle.sl_compile.proofs.rulebooks.Known.{known_types}
-use Rattle.sl_count_outcomes.specs.Outcomes.{FitsCounted, code_names}
+use Rattle.sl_count_calls.specs.Outcomes.{FitsCounted, code_names}
 use Rattle.sl_stages.specs.meaning.Counts.{HoldsStages, IsMeantEnd, kept_table}
 use Rattle.sl_stages.specs.declared.count.Column.{Column}
 use Rattle.sl_stages.specs.declared.count.Counted.{Counted}

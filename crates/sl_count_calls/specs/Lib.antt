@@ -1,3 +1,9 @@
+-- What inputs come to.
+pub mod Outcomes
+pub mod Judged
+pub mod Fitting
+pub mod Reading
+-- What is written of it.
 pub mod Counting
 pub mod Steps
 pub mod Showing

@@ -2,8 +2,8 @@
 use Rattle.std.specs.Prelude.{◌≡◌}
 use Rattle.sl_count_calls.specs.declared.view.View.TheVariants.{Steps}
 use Rattle.sl_count_calls.specs.declared.view.View.{View}
-use Rattle.sl_count_outcomes.specs.Fitting.{FitsJudged}
-use Rattle.sl_count_outcomes.specs.declared.judged.Judged.{Judged}
+use Rattle.sl_count_calls.specs.Fitting.{FitsJudged}
+use Rattle.sl_count_calls.specs.declared.judged.Judged.{Judged}
 use Rattle.sl_stages.specs.declared.count.Records.TheVariants.{Kept}
 use Rattle.sl_stages.specs.declared.count.Records.{Records}
 

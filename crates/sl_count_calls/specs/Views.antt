@@ -1,7 +1,7 @@
 -- What is shown of what inputs come to, by what is asked for (docs/output.md).
 use Rattle.std.specs.Prelude.{List, None, Option, Some, ◌≡◌, ℕ}
-use Rattle.sl_count_outcomes.specs.Judged.{IsJudged}
-use Rattle.sl_count_outcomes.specs.declared.judged.Judged.{Judged}
+use Rattle.sl_count_calls.specs.Judged.{IsJudged}
+use Rattle.sl_count_calls.specs.declared.judged.Judged.{Judged}
 use Rattle.sl_stages.specs.declared.count.Records.TheVariants.{Dropped, Kept}
 use Rattle.sl_stages.specs.declared.count.Records.{Records}
 use Rattle.sl_count_calls.specs.Counting.{IsTreeOutput, ShowsSeats}

@@ -3,6 +3,7 @@
 ghost use Rattle.std.specs.Prelude.{◌≡◌};
 ghost use Rattle.sl_count_calls.specs.Counting.{IsOutput, ReadsReturns, ShowsSeats};
 ghost use Rattle.sl_count_calls.specs.Showing.{IsStageOutput, ReadsBehindStage};
+ghost use Rattle.sl_count_calls.specs.Shows.{IsShownOutput, ReadsBehindShown};
 ghost use Rattle.sl_count_calls.specs.Steps.{ShowsSteps};
 ghost use Rattle.sl_count_inputs.specs.Failures.{counts, counts_after};
 ghost use Rattle.sl_count_inputs.specs.Reading.{ForKnown, ReadsBook, book_failures, book_input};
@@ -12,6 +13,27 @@ use crate::showing::show;
 use crate::view::View;
 use sl_count_inputs::{BookSource, DeskError, Sink, Source, Status};
 use std::alloc::Global;
+
+// Counts an election as `show` does, and answers the status alone.
+fn status_of<B: Source, R: Source, W: Sink>(
+    view: View<'_>,
+    alloc: Global,
+    book: &mut BookSource<'_, B>,
+    returns: &mut R,
+    out: &mut W,
+) -> Result<Status, DeskError>
+    ensures delivers { Delivers (λ status text. ForKnown (book_input B.remaining book.old) (R.remaining returns.old) (λ input bytes.
+        IsShownOutput view.entry input bytes status text)) (W.contents out.old) (W.contents out.new) result }
+    ensures failures { counts (book_failures B.failed book.new) (R.failed returns.new) 0 (W.failed out.new)
+        ≡ counts_after (counts (book_failures B.failed book.old) (R.failed returns.old) 0 (W.failed out.old)) result }
+    ensures book { ReadsBook B.remaining book.old book.new }
+    ensures returns { ReadsBehindShown view.entry R.remaining (book_input B.remaining book.old) returns.old returns.new result }
+{
+    let shown = show(view, alloc, book, returns, out)?;
+    let status = shown.status;
+    drop(shown);
+    Ok(status)
+}
 
 /// Counts an election: reads a rulebook and returns, and writes the table or the legal fault to which the book comes, or the line that refuses one
 /// of them. The book is read and judged before the returns (docs/output.md).
@@ -37,8 +59,7 @@ pub fn count<B: Source, R: Source, W: Sink>(
     ensures book { ReadsBook B.remaining book.old book.new }
     ensures returns { ReadsReturns R.remaining (book_input B.remaining book.old) returns.old returns.new result }
 {
-    let shown = show(View::Seats, alloc, book, returns, out)?;
-    Ok(shown.status)
+    status_of(View::Seats, alloc, book, returns, out)
 }
 
 /// Counts an election as `count` does, and writes each seat with the step that won it before the table.
@@ -64,8 +85,7 @@ pub fn steps<B: Source, R: Source, W: Sink>(
     ensures book { ReadsBook B.remaining book.old book.new }
     ensures returns { ReadsReturns R.remaining (book_input B.remaining book.old) returns.old returns.new result }
 {
-    let shown = show(View::Steps, alloc, book, returns, out)?;
-    Ok(shown.status)
+    status_of(View::Steps, alloc, book, returns, out)
 }
 
 /// Counts an election as `count` does, and writes the column of the stage of that name in place of the table. The book is read and judged first,
@@ -93,6 +113,5 @@ pub fn stage<B: Source, R: Source, W: Sink>(
     ensures book { ReadsBook B.remaining book.old book.new }
     ensures returns { ReadsBehindStage name.now R.remaining (book_input B.remaining book.old) returns.old returns.new result }
 {
-    let shown = show(View::Stage(name), alloc, book, returns, out)?;
-    Ok(shown.status)
+    status_of(View::Stage(name), alloc, book, returns, out)
 }

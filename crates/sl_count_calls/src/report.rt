@@ -1,12 +1,11 @@
 //! The texts of a count that ends with a table.
 
 ghost use Rattle.std.specs.Prelude.{IfOk, length};
-ghost use Rattle.sl_count_outcomes.specs.Outcomes.{FitsCounted};
+ghost use Rattle.sl_count_calls.specs.Outcomes.{FitsCounted};
 
 use sl_code_instructions::Code;
-use sl_count_outcomes::Counted;
 use sl_ratio::NoMemory;
-use sl_stages::Returns;
+use sl_stages::{Counted, Returns};
 use sl_table::{column_text, short_text, steps_text};
 use std::alloc::Global;
 

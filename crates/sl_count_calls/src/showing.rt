@@ -1,7 +1,7 @@
 //! Counting an election for whoever makes more of it than a text.
 
 ghost use Rattle.std.specs.Prelude.{◌⊎◌, ◌≡◌, IfErr, IfOk};
-ghost use Rattle.sl_count_outcomes.specs.Judged.{IsJudged};
+ghost use Rattle.sl_count_calls.specs.Judged.{IsJudged};
 ghost use Rattle.sl_count_calls.specs.Shows.{IsShownOutput, ReadsBehindShown, status_in};
 ghost use Rattle.sl_count_calls.specs.Suiting.{IsFor};
 ghost use Rattle.sl_count_calls.specs.Views.{IsAnswerOf, records_for, stage_of};
@@ -9,10 +9,11 @@ ghost use Rattle.sl_count_inputs.specs.Failures.{counts, counts_after};
 ghost use Rattle.sl_count_inputs.specs.Reading.{ForKnown, ReadsBook, book_failures, book_input};
 ghost use Rattle.sl_count_inputs.specs.Writing.{Delivers};
 
+use crate::judged::Judged;
+use crate::reading::{Read, judge_read};
 use crate::texts::answer_of;
 use crate::view::View;
 use sl_count_inputs::{BookSource, DeskError, Sink, Source, Status};
-use sl_count_outcomes::{Judged, Read, judge_read};
 use std::alloc::Global;
 
 /// A count that was shown: the status, and what its inputs came to.

@@ -2,7 +2,7 @@
 
 ghost use Rattle.std.specs.Prelude.{◌≡◌, option_map};
 
-use sl_count_outcomes::Records;
+use sl_stages::Records;
 
 /// What is shown of a count.
 #[derive(Clone, Copy)]

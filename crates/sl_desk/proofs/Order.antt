@@ -2,7 +2,7 @@
 use Rattle.std.proofs.Common.{◌≡◌, ℕ, ◌+◌, List, Option, Some, None, IfSome, IfOk, Result, Ok, Err, length, subst}
 use Rattle.sl_count_code_files.specs.CodeFiles.{IsCodeVerdict, code_line}
 use Rattle.sl_count_code_files.specs.declared.refusal.CodeRefusal.{CodeRefusal}
-use Rattle.sl_count_outcomes.proofs.Order.{reads_after}
+use Rattle.sl_count_calls.proofs.Order.{reads_after}
 use Rattle.sl_count_calls.specs.declared.answer.Answer.{Answer}
 use Rattle.sl_desk.proofs.RunOutputs.{run_output}
 use Rattle.sl_desk.specs.Endings.{IsEndingOutput}

@@ -23,8 +23,8 @@ use Rattle.sl_count_inputs.specs.declared.status.Status.{Status}
 use Rattle.sl_count_inputs.specs.declared.status.Status.TheVariants as status
 use Rattle.sl_count_inputs.specs.declared.verdict.Verdict.{Verdict}
 use Rattle.sl_count_inputs.specs.declared.verdict.Verdict.TheVariants.{Good, Refused}
-use Rattle.sl_count_outcomes.proofs.Ends.{fault_is_meant, table_is_meant}
-use Rattle.sl_count_outcomes.specs.Outcomes.{code_names}
+use Rattle.sl_count_calls.proofs.Ends.{fault_is_meant, table_is_meant}
+use Rattle.sl_count_calls.specs.Outcomes.{code_names}
 use Rattle.sl_stages.specs.declared.count.Records.TheVariants.{Kept}
 use Rattle.sl_desk.specs.Endings.{IsRunOutput, out_of_budget}
 use Rattle.sl_desk.specs.Laws.{OneCodeVerdict, NoOtherCodeVerdict, OneRun, HasOneRun, RunsItsCode, RunIsCount}

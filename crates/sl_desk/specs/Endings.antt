@@ -1,6 +1,6 @@
 -- What the end of the run of a counting code writes (docs/output.md, sections 1 and 2).
 use Rattle.std.specs.Prelude.{List, None, Option, Some, [], codes, ◌∷◌, ◌≡◌, ℕ}
-use Rattle.sl_count_outcomes.specs.Outcomes.{code_names}
+use Rattle.sl_count_calls.specs.Outcomes.{code_names}
 use Rattle.sl_count_inputs.specs.declared.status.Status.TheVariants as status
 use Rattle.sl_count_inputs.specs.declared.status.Status.{Status}
 use Rattle.sl_code_instructions.specs.Codes.{CountingCode}

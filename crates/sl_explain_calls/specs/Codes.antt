@@ -3,8 +3,8 @@
 use Rattle.std.specs.Prelude.{None, Option, Some}
 use Rattle.sl_count_code_files.specs.declared.refusal.CodeRefusal.TheVariants as file
 use Rattle.sl_count_code_files.specs.declared.refusal.CodeRefusal.{CodeRefusal}
-use Rattle.sl_count_outcomes.specs.declared.judged.Judged.TheVariants as judged
-use Rattle.sl_count_outcomes.specs.declared.judged.Judged.{Judged}
+use Rattle.sl_count_calls.specs.declared.judged.Judged.TheVariants as judged
+use Rattle.sl_count_calls.specs.declared.judged.Judged.{Judged}
 use Rattle.sl_stages.specs.declared.count.End.TheVariants as ends
 use Rattle.sl_stages.specs.declared.count.End.{End}
 use Rattle.sl_desk.specs.declared.calls.run.JudgedRun.TheVariants as runs

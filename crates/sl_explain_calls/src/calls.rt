@@ -9,8 +9,8 @@ ghost use Rattle.sl_count_inputs.specs.declared.status.Input.TheVariants as inpu
 use crate::explained::Explained;
 use crate::refusals::{explain_book, explain_code, explain_election};
 use sl_code_instructions::Code;
+use sl_count_calls::{End, Judged, Outcome, Read};
 use sl_count_inputs::{Input, ReadBook, RefusedBook, Verdict};
-use sl_count_outcomes::{End, Judged, Outcome, Read};
 use sl_desk::{JudgedRun, ReadRun, Run};
 use sl_explain_books::explain_unknown_stage;
 use sl_explain_faults::{explain_budget, explain_legal};

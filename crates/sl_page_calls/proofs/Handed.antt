@@ -1,7 +1,7 @@
 -- What is handed over is what is shown of the inputs.
 use Rattle.std.proofs.Common.{◌≡◌, ◌<◌, ℕ, List, None, sym, subst, ◌∙◌}
-use Rattle.sl_count_outcomes.specs.Judged.{IsJudged}
-use Rattle.sl_count_outcomes.specs.declared.judged.Judged.{Judged}
+use Rattle.sl_count_calls.specs.Judged.{IsJudged}
+use Rattle.sl_count_calls.specs.declared.judged.Judged.{Judged}
 use Rattle.sl_stages.specs.declared.count.Records.TheVariants.{Kept}
 use Rattle.sl_count_calls.specs.Counting.{IsOutput, ShowsSeats}
 use Rattle.sl_count_calls.specs.Steps.{ShowsSteps}

@@ -1,9 +1,9 @@
 -- The texts of `count` and of `steps` on the same inputs have one status, that of what the inputs come to.
 use Rattle.std.proofs.Common.{◌≡◌, ℕ, List, None, inl, inr, refl, sym, subst, ◌∙◌}
 use Rattle.sl_report_tables.specs.Ends.{end_status}
-use Rattle.sl_count_outcomes.specs.Judged.{IsJudged}
-use Rattle.sl_count_outcomes.specs.declared.judged.Judged.TheVariants as judged
-use Rattle.sl_count_outcomes.specs.declared.judged.Judged.{Judged}
+use Rattle.sl_count_calls.specs.Judged.{IsJudged}
+use Rattle.sl_count_calls.specs.declared.judged.Judged.TheVariants as judged
+use Rattle.sl_count_calls.specs.declared.judged.Judged.{Judged}
 use Rattle.sl_stages.specs.meaning.Counts.{IsMeantEnd}
 use Rattle.sl_stages.specs.declared.count.End.TheVariants as ends
 use Rattle.sl_stages.specs.declared.count.End.{End}

@@ -1,7 +1,7 @@
 -- What an explanation that is handed over goes with (docs/page.md): the number of the status of the command that it explains.
 use Rattle.std.specs.Prelude.{List, None, Option, Some, [], ◌<◌, ◌≡◌, ℕ}
-use Rattle.sl_count_outcomes.specs.Judged.{IsJudged}
-use Rattle.sl_count_outcomes.specs.declared.judged.Judged.{Judged}
+use Rattle.sl_count_calls.specs.Judged.{IsJudged}
+use Rattle.sl_count_calls.specs.declared.judged.Judged.{Judged}
 use Rattle.sl_stages.specs.declared.count.Records.TheVariants.{Dropped}
 use Rattle.sl_desk.specs.JudgedRuns.{IsJudged as IsJudgedRun}
 use Rattle.sl_desk.specs.declared.calls.run.JudgedRun.TheVariants as run

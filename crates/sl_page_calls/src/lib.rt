@@ -32,7 +32,7 @@ use coded::hand_code;
 use compared::compare_words;
 pub use parts::PartEnds;
 use shown::{hand_parts, parts_of};
-use sl_count_outcomes::{Records, judge};
+use sl_count_calls::{Records, judge};
 use sl_desk::{BookSource, BookText, FromRead, compilation_of, judge_book, judge_run, run_code};
 use sl_explain_texts::FaultCode;
 use sl_report_commands::{Style, Texts, report, totals};

@@ -1,7 +1,7 @@
 //! All that is shown of a rulebook on returns: views of what they came to, handed over to the page.
 
 ghost use Rattle.std.specs.Prelude.{◌≡◌, ◌<◌, IfOk, length};
-ghost use Rattle.sl_count_outcomes.specs.Fitting.{FitsJudged};
+ghost use Rattle.sl_count_calls.specs.Fitting.{FitsJudged};
 ghost use Rattle.sl_stages.specs.declared.count.Records.TheVariants.{Kept};
 ghost use Rattle.sl_count_inputs.specs.Statuses.{status_number};
 ghost use Rattle.sl_report_commands.specs.Digests.{digests, summed_digests};
@@ -11,15 +11,14 @@ ghost use Rattle.sl_page_calls.specs.inner.Parts.{ArePartsOf, AreTablesOf, Hold}
 use crate::parts::{PartEnds, Parts};
 use crate::taken::{NO_MEMORY, put};
 use crate::told::explanation_text;
-use sl_count_calls::{View, answer_of};
-use sl_count_outcomes::Judged;
+use sl_count_calls::{Judged, View, answer_of};
 use sl_desk::Status;
 use sl_explain_calls::{Explained, explain_judged};
 use sl_explain_texts::Language;
 use sl_ratio::NoMemory;
 use sl_report_commands::{
-    Answer, DigestedInput, Show, Style, Texts, Told, answer_judged, digested, digested_unjudged,
-    names_of, push_digested, text_of, told_of, totals_judged,
+    Answer, DigestedInput, FullNames, Show, Style, Texts, Told, answer_judged, digested,
+    digested_unjudged, names_of, push_digested, text_of, told_of, totals_judged,
 };
 use std::alloc::Global;
 
@@ -107,6 +106,36 @@ fn told_of_texts<'a>(explained: &'a Option<Explained>, texts: Texts<'a>) -> Opti
         .map(|explained| told_of(explained, texts.of(explained.input)))
 }
 
+// What `report` or `stages` writes as JSON of what inputs came to.
+fn report_json(
+    alloc: Global,
+    show: Show<'_>,
+    judged: &Judged<'_>,
+    names: &Result<FullNames, Answer>,
+    language: Language,
+    beside: Beside<'_>,
+) -> Result<Vec<u8>, NoMemory>
+    requires { FitsJudged Kept judged.now }
+{
+    let answer = answer_judged(alloc, show, judged, names, language)?;
+    json_of(alloc, show.command(), language, &answer, beside)
+}
+
+// What `totals` writes as JSON of inputs of these texts.
+fn totals_json(
+    alloc: Global,
+    judged: &Judged<'_>,
+    names: &Result<FullNames, Answer>,
+    texts: Texts<'_>,
+    language: Language,
+    told: Option<Told<'_>>,
+) -> Result<Vec<u8>, NoMemory> {
+    let answer = totals_judged(alloc, judged, names, language)?;
+    let inputs = digested_totals(alloc, judged, texts)?;
+    let beside = beside_totals(inputs.as_slice(), &answer, told);
+    json_of(alloc, "totals", language, &answer, beside)
+}
+
 /// The parts for what a rulebook and returns of these texts came to, with the full names of that file.
 pub(crate) fn parts_of(
     alloc: Global,
@@ -126,18 +155,13 @@ pub(crate) fn parts_of(
         inputs: inputs.as_slice(),
         told: told_of_texts(&explained, texts),
     };
-    let report = answer_judged(alloc, Show::Report, judged, &names, language)?;
-    let stages = answer_judged(alloc, Show::Stages, judged, &names, language)?;
-    let totals = totals_judged(alloc, judged, &names, language)?;
-    let summed = digested_totals(alloc, judged, texts)?;
-    let also = beside_totals(summed.as_slice(), &totals, beside.told);
     Ok(Parts {
         status: tables.status,
         seats: tables.seats,
         steps: tables.steps,
-        report: json_of(alloc, "report", language, &report, beside)?,
-        stages: json_of(alloc, "stages", language, &stages, beside)?,
-        totals: json_of(alloc, "totals", language, &totals, also)?,
+        report: report_json(alloc, Show::Report, judged, &names, language, beside)?,
+        stages: report_json(alloc, Show::Stages, judged, &names, language, beside)?,
+        totals: totals_json(alloc, judged, &names, texts, language, beside.told)?,
         explanation: explanation_text(alloc, language, judged, &explained, texts)?,
     })
 }

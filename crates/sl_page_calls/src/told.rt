@@ -11,7 +11,7 @@ ghost use Rattle.sl_report_commands.specs.Statuses.{judged_status};
 
 use crate::taken::{NO_MEMORY, put};
 use sl_check::CheckedBook;
-use sl_count_outcomes::{End, Judged};
+use sl_count_calls::{End, Judged};
 use sl_desk::{Input, JudgedRun, ReadRun, RefusedBook, Status, Verdict};
 use sl_explain_calls::{Explained, explain_judged, explain_run, explain_verdict};
 use sl_explain_codes::text_about;

@@ -20,9 +20,9 @@ pub has_own : (xs : List Entry) (x : Entry) → Contains xs x → have_index xs 
 has_own xs x c = any-at (λ y. nat_eq y.index x.index) xs x c (eq-eqb x.index x.index refl)
 
 -- with the indexes of the peers marked, the peers have marks
-pub anew_marked : (xs : List Entry) (heap : IsHeap xs) (first : Entry) (at : slice_get xs 0 ≡ Some first) (before : ℕ → Bool) (marks : List Bool)
+pub again_marked : (xs : List Entry) (heap : IsHeap xs) (first : Entry) (at : slice_get xs 0 ≡ Some first) (before : ℕ → Bool) (marks : List Bool)
     → AreMarks (λ index. before index || have_index (peers_under first xs 0) index) marks → HaveMarks (peers xs) marks
-anew_marked xs heap first at before marks held = λ x c d l.
+again_marked xs heap first at before marks held = λ x c d l.
     held x.index d l ∙ ap (λ (b : Bool). before x.index || b) (has_own (peers_under first xs 0) x (seen_under xs heap first at x c)) ∙ or-true (before x.index)
 
 -- an index without a mark is that of no entry

@@ -109,8 +109,8 @@ kept_replaced (z ∷ zs) ys x fits all moved heap =
     kept_by (x ∷ zs) ys moved (All-cons (λ entry. FitsRatio entry.ratio) x zs fits (All-tail (λ entry. FitsRatio entry.ratio) z zs all)) heap
 
 -- none of them is marked
-pub counted_anew : (xs : List Entry) (count : ℕ) (marked : Bool) (marks : List Bool) → count ≡ length (peers xs) → marked ≡ false → AreCounted (peers xs) count marked marks
-counted_anew xs count marked marks n none = record {
+pub counted_again : (xs : List Entry) (count : ℕ) (marked : Bool) (marks : List Bool) → count ≡ length (peers xs) → marked ≡ false → AreCounted (peers xs) count marked marks
+counted_again xs count marked marks n none = record {
   counted = n;
   apart = λ h. absurd (true≢false (sym h ∙ none));
   indexes = λ h. absurd (true≢false (sym h ∙ none));

@@ -48,7 +48,7 @@ impl Counted {
     };
 
     // The peers of a heap's top. None of them is marked.
-    pub(crate) fn anew(entries: &[Entry]) -> Counted
+    pub(crate) fn again(entries: &[Entry]) -> Counted
         requires kept { IsKept entries.now }
         ensures count { result.count ≡ length (peers entries.now) }
         ensures marked { result.marked ≡ false }
@@ -133,7 +133,7 @@ pub(crate) fn peers_left(
             marked: before.marked,
         };
     }
-    Counted::anew(entries)
+    Counted::again(entries)
 }
 
 // Takes the mark of an index away that a peer had which is gone.
@@ -146,7 +146,7 @@ fn unmark_gone(marks: &mut [bool], marked: bool, index: u32)
 }
 
 // Marks the indexes of a heap's peers, unless they have marks, and notes the peers' places. No mark is left of others.
-pub(crate) fn marked_anew(
+pub(crate) fn marked_again(
     entries: &[Entry],
     top: &Entry,
     marks: &mut [bool],

@@ -13,7 +13,7 @@ ghost use Rattle.sl_prio.specs.inner.Marks.{IsPassed};
 
 use crate::heap::{across, raise, replace_first, take_out};
 use crate::lot::{LEAST_MARKS, MARKS, marks};
-use crate::peers::{Counted, are_named, drawn_at, is_peer, marked_anew, peers_left};
+use crate::peers::{Counted, are_named, drawn_at, is_peer, marked_again, peers_left};
 use crate::places::note;
 use sl_ratio::{Entry, NoMemory};
 use std::alloc::Global;
@@ -231,7 +231,7 @@ impl Prio {
         // no ratio has numerator 0: the peers of the next top stand together
         prove!(entry.ratio.num() > 0);
         replace_first(&mut self.entries, &mut self.places, entry);
-        self.counted = Counted::anew(&self.entries);
+        self.counted = Counted::again(&self.entries);
     }
 
     /// Whether a lot names the index of each peer of the top, as it does where there is no entry.
@@ -266,7 +266,7 @@ impl Prio {
         ensures none { IfNone result (self.new ≡ self.old) }
     {
         let top = *self.entries.first()?;
-        self.counted = marked_anew(
+        self.counted = marked_again(
             &self.entries,
             &top,
             &mut self.marks,

@@ -12,8 +12,8 @@ use Rattle.sl_count_inputs.specs.declared.refused_election.RefusedElection.TheVa
 use Rattle.sl_count_inputs.specs.declared.refused_election.RefusedElection.{RefusedElection}
 use Rattle.sl_count_inputs.specs.declared.verdict.Verdict.TheVariants.{Good, Refused}
 use Rattle.sl_count_inputs.specs.declared.verdict.Verdict.{Verdict}
-use Rattle.sl_count_outcomes.specs.declared.judged.Judged.TheVariants.{BookRefused, Counted, ReturnsRefused, StageUnknown}
-use Rattle.sl_count_outcomes.specs.declared.judged.Judged.{Judged}
+use Rattle.sl_count_calls.specs.declared.judged.Judged.TheVariants.{BookRefused, Counted, ReturnsRefused, StageUnknown}
+use Rattle.sl_count_calls.specs.declared.judged.Judged.{Judged}
 use Rattle.sl_laws.specs.Books.{law_text}
 use Rattle.sl_report_commands.specs.declared.comparison.Named.{Named}
 use Rattle.sl_report_forms.specs.declared.heading.DigestedInput.{DigestedInput}

@@ -3,9 +3,9 @@ use Rattle.std.specs.Prelude.{Bool, List, None, [], true, ◌⊎◌, ◌≡◌, 
 use Rattle.sl_count_inputs.specs.Books.{BookInput}
 use Rattle.sl_count_inputs.specs.declared.status.Status.TheVariants as status
 use Rattle.sl_count_inputs.specs.declared.status.Status.{Status}
-use Rattle.sl_count_outcomes.specs.Judged.{IsJudged}
-use Rattle.sl_count_outcomes.specs.declared.judged.Judged.TheVariants.{BookRefused, Counted, ReturnsRefused, StageUnknown}
-use Rattle.sl_count_outcomes.specs.declared.judged.Judged.{Judged}
+use Rattle.sl_count_calls.specs.Judged.{IsJudged}
+use Rattle.sl_count_calls.specs.declared.judged.Judged.TheVariants.{BookRefused, Counted, ReturnsRefused, StageUnknown}
+use Rattle.sl_count_calls.specs.declared.judged.Judged.{Judged}
 use Rattle.sl_report_commands.specs.Statuses.{judged_status}
 use Rattle.sl_report_forms.specs.Tables.{Table}
 use Rattle.sl_report_tables.specs.Reports.{Shows}

@@ -9,8 +9,8 @@ use Rattle.sl_count_inputs.specs.declared.refusal.ReturnsRefusal.{ReturnsRefusal
 use Rattle.sl_count_inputs.specs.declared.status.Status.TheVariants as status
 use Rattle.sl_count_inputs.specs.declared.status.Status.{Status}
 use Rattle.sl_count_inputs.specs.declared.verdict.Verdict.TheVariants.{Good, Refused}
-use Rattle.sl_count_outcomes.specs.declared.judged.Judged.TheVariants.{BookRefused, Counted, ReturnsRefused, StageUnknown}
-use Rattle.sl_count_outcomes.specs.declared.judged.Judged.{Judged}
+use Rattle.sl_count_calls.specs.declared.judged.Judged.TheVariants.{BookRefused, Counted, ReturnsRefused, StageUnknown}
+use Rattle.sl_count_calls.specs.declared.judged.Judged.{Judged}
 use Rattle.sl_report_commands.specs.Compared.{ShowsCompared}
 use Rattle.sl_report_commands.specs.declared.comparison.Compared.{Compared}
 use Rattle.sl_report_commands.specs.declared.comparison.Named.{Named}

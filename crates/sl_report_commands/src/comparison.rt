@@ -13,11 +13,11 @@ ghost use Rattle.sl_report_forms.specs.Tables.{table_of};
 use crate::further::add_refused;
 use crate::sums::ReturnsVerdict;
 use crate::written::{Reasoned, Style, Written, bytes_of, digested_unjudged, push_digested};
+use sl_count_calls::{End, Records, outcome_of};
 use sl_count_inputs::{
     BookText, Input, MAX_BOOK_BYTES, RefusedBook, RefusedElection, Verdict, judge_book,
     judge_returns,
 };
-use sl_count_outcomes::{End, Records, outcome_of};
 use sl_explain_calls::{Explained, explain_book};
 use sl_explain_texts::Language;
 use sl_laws::{STATUTES, law};

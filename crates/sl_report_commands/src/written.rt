@@ -6,10 +6,10 @@ ghost use Rattle.sl_report_commands.specs.Digests.{book_digest, bytes_of, count_
 ghost use Rattle.sl_report_commands.specs.Summaries.{IsRefusal};
 ghost use Rattle.sl_report_forms.specs.Tables.{table_of};
 
+use sl_count_calls::Judged;
 use sl_count_inputs::{
     BookText, DeskError, Input, MAX_RETURNS_BYTES, RefusedBook, RefusedElection, Verdict,
 };
-use sl_count_outcomes::Judged;
 use sl_explain_calls::{Explained, explain_book, explain_election, explain_judged};
 use sl_explain_texts::{Explanation, Language};
 use sl_laws::law;

@@ -1,6 +1,6 @@
 //! The cells of a sheet.
 
-use sl_base_no_memory::NoMemory;
+use sl_ratio::NoMemory;
 use std::alloc::Global;
 
 /// A cell. A decimal number or a fraction is a text, so that no reader makes a float of it.

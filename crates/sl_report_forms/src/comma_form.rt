@@ -2,7 +2,7 @@
 
 use crate::cell::Cell;
 use crate::sheet::{Head, Sheet};
-use sl_base_no_memory::NoMemory;
+use sl_ratio::NoMemory;
 use std::alloc::Global;
 
 // Whether a text has a character that must stand between quotes.

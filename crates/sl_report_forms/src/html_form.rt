@@ -4,8 +4,8 @@ use crate::cell::Cell;
 use crate::heading::Heading;
 use crate::sheet::{Look, Sheet};
 use crate::shown::{Shown, shown_of};
-use sl_base_no_memory::NoMemory;
 use sl_explain_texts::{Language, Message};
+use sl_ratio::NoMemory;
 use std::alloc::Global;
 
 // The titles of the pages of the commands.
@@ -47,7 +47,7 @@ const TITLES: [(&str, Message); 5] = [
     ),
 ];
 
-// How the language of a page is called in its head.
+// The code of a language, as the head of a page names it.
 const LANGUAGE: Message = Message {
     english: "en",
     german: "de",
@@ -81,7 +81,7 @@ const FIRST: Tag = ("<th scope=\"row\"", "</th>");
 
 const OTHER: Tag = ("<td", "</td>");
 
-// What stands for a character that HTML would read as a mark.
+// What stands for a character that HTML would read as markup.
 fn escaped(character: char) -> Option<&'static str> {
     match character {
         '&' => Some("&amp;"),

@@ -6,7 +6,7 @@ use crate::json_heading::put_heading;
 use crate::json_values::text_value;
 use crate::sheet::{Head, Sheet};
 use serde_json::{Map, Number, Value, push, put};
-use sl_base_no_memory::NoMemory;
+use sl_ratio::NoMemory;
 use std::alloc::Global;
 
 fn names_value(alloc: Global, names: &[String]) -> Result<Value, NoMemory> {

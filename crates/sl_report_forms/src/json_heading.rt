@@ -3,8 +3,8 @@
 use crate::heading::{DigestedInput, Heading, Told};
 use crate::json_values::{bytes_value, number_value, put_text};
 use serde_json::{Map, Value, push, put};
-use sl_base_no_memory::NoMemory;
 use sl_explain_texts::{Remedy, Span, VERSION, line_at};
+use sl_ratio::NoMemory;
 use std::alloc::Global;
 
 /// The version of the JSON, as docs/report.schema.json has it.

@@ -1,7 +1,7 @@
 //! Values of JSON: texts, numbers, and members of an object.
 
 use serde_json::{Map, Number, Value, put};
-use sl_base_no_memory::NoMemory;
+use sl_ratio::NoMemory;
 use std::alloc::Global;
 
 pub(crate) fn text_value(alloc: Global, text: &str) -> Result<Value, NoMemory> {

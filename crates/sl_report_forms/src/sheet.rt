@@ -5,8 +5,8 @@ ghost use Rattle.sl_report_forms.specs.Cells.{a_change, a_flag, a_number, a_text
 ghost use Rattle.sl_report_forms.specs.Tables.{blank_table, contents_of, table_of, with_columns, with_rows};
 
 use crate::cell::Cell;
-use sl_base_no_memory::NoMemory;
 use sl_explain_texts::{Language, Message};
+use sl_ratio::NoMemory;
 use std::alloc::Global;
 
 /// How a column looks in aligned text.

@@ -2,7 +2,7 @@
 
 use crate::cell::Cell;
 use crate::sheet::{Head, Look, Sheet};
-use sl_base_no_memory::NoMemory;
+use sl_ratio::NoMemory;
 use std::alloc::Global;
 
 /// The columns of a sheet that are shown: their looks, their titles, and the rows. No text is cut.

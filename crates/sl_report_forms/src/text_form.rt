@@ -2,7 +2,7 @@
 
 use crate::sheet::{Look, Sheet};
 use crate::shown::{Shown, shown_of};
-use sl_base_no_memory::NoMemory;
+use sl_ratio::NoMemory;
 use std::alloc::Global;
 use unicode_width::{UnicodeWidthChar, UnicodeWidthStr};
 

@@ -25,8 +25,9 @@ pub use builder::ReturnsBuilder;
 pub use cells::{MAX_DIGITS, spelled_number};
 pub use fault::{FaultKind, RecordFault, ReturnsFault};
 pub use places::{Place, cell_place};
-pub use read::{read_or_refuse, read_returns};
+pub use read::{read_or_refuse, read_returns, reader_of};
 pub use refused::{Before, MAX_FURTHER, RecordAtFault, RefusedRecord, RefusedReturns, find_record};
 pub use schema::{
     A, B, C, COLUMNS, Content, KIND, Kind, LAND, Named, PARTY, Quantity, column_name,
 };
+pub use sieve::stopped;

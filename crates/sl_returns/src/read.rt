@@ -137,8 +137,8 @@ fn finish(
     }
 }
 
-// A reader of the records of a text, of any number of cells each.
-pub(crate) fn reader_of(alloc: Global, bytes: &[u8]) -> Reader<&[u8]>
+/// A reader of the records of a text, of any number of cells each.
+pub fn reader_of(alloc: Global, bytes: &[u8]) -> Reader<&[u8]>
     ensures trims { reader_trim result ≡ trim.None }
     ensures ready { Ready result }
     ensures config { reader_config result ≡ default_config }

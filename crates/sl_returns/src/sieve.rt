@@ -124,8 +124,8 @@ pub(crate) fn sift_all(
     Err(NoMemory)
 }
 
-// What it means that the reader of a text in memory stopped: it wanted memory, since such a text is always read.
-fn stopped(error: csv::Error) -> NoMemory
+/// What it means that the reader of a text in memory stopped: memory ran out, since such a text is always read.
+pub fn stopped(error: csv::Error) -> NoMemory
     requires { stops_reader (error_kind error) ≡ true }
 {
     match error.into_kind() {

@@ -1,8 +1,8 @@
 -- The end of a report of one count, by the answer that shows it.
 use Rattle.std.proofs.Common.{Bool, Err, IfErr, IfOk, List, None, Ok, Option, Result, Some, inl, inr, true, ◌≡◌, ◌∙◌, ℕ}
 use Rattle.sl_report_tables.specs.declared.answer.Answer.{Answer}
-use Rattle.sl_count_outcomes.specs.Judged.{IsJudged}
-use Rattle.sl_count_outcomes.specs.declared.judged.Judged.{Judged}
+use Rattle.sl_count_calls.specs.Judged.{IsJudged}
+use Rattle.sl_count_calls.specs.declared.judged.Judged.{Judged}
 use Rattle.sl_stages.specs.declared.count.Records.TheVariants.{Kept}
 use Rattle.sl_count_inputs.specs.Books.{BookInput}
 use Rattle.sl_count_inputs.specs.Reading.{ForKnown}

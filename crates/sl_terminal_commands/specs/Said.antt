@@ -1,8 +1,8 @@
 -- What is said on standard error (docs/explanations.md, docs/faults.md; of warnings docs/returns.md, section 7).
 use Rattle.std.specs.Io.KnownBytes.{Keeps}
 use Rattle.std.specs.Prelude.{List, None, Option, Some, ℕ}
-use Rattle.sl_count_outcomes.specs.declared.judged.Judged.TheVariants as judged
-use Rattle.sl_count_outcomes.specs.declared.judged.Judged.{Judged}
+use Rattle.sl_count_calls.specs.declared.judged.Judged.TheVariants as judged
+use Rattle.sl_count_calls.specs.declared.judged.Judged.{Judged}
 use Rattle.sl_stages.specs.declared.count.End.TheVariants as ends
 use Rattle.sl_stages.specs.declared.count.End.{End}
 use Rattle.sl_explain_texts.specs.Heads.{Begins, head_of}

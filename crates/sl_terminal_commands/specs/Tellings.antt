@@ -1,8 +1,8 @@
 -- What is told of each request on standard error: the fault that it met, or warnings of what it counted.
 use Rattle.std.specs.Option.{option_map}
 use Rattle.std.specs.Prelude.{Bool, IfSome, List, None, Option, Some, false, is_some, map, true, ◌≡◌, ◌⊎◌, ◌||◌, ℕ}
-use Rattle.sl_count_outcomes.specs.Judged.{IsJudged}
-use Rattle.sl_count_outcomes.specs.declared.judged.Judged.{Judged}
+use Rattle.sl_count_calls.specs.Judged.{IsJudged}
+use Rattle.sl_count_calls.specs.declared.judged.Judged.{Judged}
 use Rattle.sl_stages.specs.declared.count.Records.TheVariants as records
 use Rattle.sl_stages.specs.declared.count.Records.{Records}
 use Rattle.sl_desk.specs.JudgedRuns.{IsJudged as IsJudgedRun}

@@ -1,8 +1,8 @@
 //! The commands that report, over files: each input is read and judged once, and each rulebook is run once.
 
 ghost use Rattle.std.specs.Prelude.{◌≡◌, ◌<◌, ◌^◌, ◌⊎◌, ◌||◌, Err, IfErr, IfOk, None, false, is_some, true};
-ghost use Rattle.sl_count_outcomes.specs.Fitting.{FitsJudged};
-ghost use Rattle.sl_count_outcomes.specs.Judged.{IsJudged};
+ghost use Rattle.sl_count_calls.specs.Fitting.{FitsJudged};
+ghost use Rattle.sl_count_calls.specs.Judged.{IsJudged};
 ghost use Rattle.sl_stages.specs.declared.count.Records.TheVariants.{Kept};
 ghost use Rattle.sl_count_inputs.specs.Reading.{ForKnown};
 ghost use Rattle.sl_count_inputs.specs.declared.status.Status.TheVariants as status;
@@ -17,8 +17,8 @@ ghost use Rattle.sl_terminal_commands.specs.inner.Reports.{IsShownBy, SaysBy};
 
 use crate::failure::Failure;
 use crate::terminal::Terminal;
+use sl_count_calls::{Judged, Read, Records, judge_read};
 use sl_count_inputs::{BookText, Bytes, Input, Sink, Status, read_all};
-use sl_count_outcomes::{Judged, Read, Records, judge_read};
 use sl_report_commands::{
     Answer, EarlierParty, FullNames, MAX_BEFORE_BYTES, MAX_NAMES_BYTES, Shape, Show, Style, Texts,
     answer_judged, bytes_of, earlier_in, judged_text, names_in,

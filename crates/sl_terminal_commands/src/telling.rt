@@ -13,8 +13,8 @@ ghost use Rattle.sl_report_warnings.specs.Warnings.{warnings_of};
 
 use crate::failure::Failure;
 use crate::terminal::Terminal;
+use sl_count_calls::{Counting, End, Judged, Read};
 use sl_count_inputs::{DeskError, Input, ReadBook, Sink, Status, write_all};
-use sl_count_outcomes::{Counting, End, Judged, Read};
 use sl_explain_calls::{
     Explained, Lost, explain_check, explain_failure, explain_kept, explain_opening, explain_read,
     explain_writing,

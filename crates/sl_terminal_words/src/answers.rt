@@ -7,8 +7,8 @@ use crate::refusals::{refusal, sentence_in, tips_in};
 use crate::texts::{NO_MEMORY, TIP};
 use clap::error::ErrorKind;
 use clap::{Command, Error};
-use sl_base_no_memory::NoMemory;
 use sl_explain_texts::{Language, Message, append};
+use sl_ratio::NoMemory;
 use std::alloc::{AllocError, Global};
 
 /// What is said of words that ask for no command.

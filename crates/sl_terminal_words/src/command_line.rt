@@ -7,8 +7,8 @@ use crate::reports::{Report, ReportForm, form_of, report_of};
 use crate::texts::{NO_COMMAND, SAME_FILE, UNKNOWN_CODE};
 use crate::words::{Given, Word};
 use clap::{Arg, ArgAction, ArgMatches, Command};
-use sl_base_no_memory::NoMemory;
 use sl_explain_texts::{FaultCode, Language, Message, VERSION};
+use sl_ratio::NoMemory;
 use std::alloc::{AllocError, Global};
 
 /// What is shown of an election that is counted.

@@ -6,8 +6,8 @@ use crate::texts::{
     METHODS, NO_RULEBOOK, OPTION_BEHIND, REDIRECT, REPORT_ALONE, REPORTS, STAGE, VERSION,
 };
 use clap::error::ErrorKind;
-use sl_base_no_memory::NoMemory;
 use sl_explain_texts::{Language, Message};
+use sl_ratio::NoMemory;
 use std::alloc::Global;
 
 // Words that are taken for commands, and the commands.

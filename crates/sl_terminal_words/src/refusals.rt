@@ -9,8 +9,8 @@ use crate::texts::{
     SIMILAR_SUBCOMMAND, SIMILAR_SUBCOMMANDS, SIMILAR_VALUE, TIP, UNEXPECTED_ARGUMENT,
     UNEXPECTED_VALUE, UNKNOWN_SUBCOMMAND, UNLIKE_ARGUMENT, UNLIKE_ARGUMENTS,
 };
-use sl_base_no_memory::NoMemory;
 use sl_explain_texts::{Language, Message, append};
+use sl_ratio::NoMemory;
 use std::alloc::{AllocError, Global};
 
 // The sentences.

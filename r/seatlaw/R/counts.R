@@ -14,7 +14,7 @@ counts <- function(book, returns, numbers) {
   made <- template_of(returns)
   numbers <- matrix_of(numbers, made$lists)
   are_same <- identical(ask("count", book, bytes(returns)), ask("count", book, filled(made)))
-  if (!are_same) stop("these returns cannot be varied: written anew they are counted otherwise")
+  if (!are_same) stop("these returns cannot be varied: written again they are counted otherwise")
   shape <- c(nrow(numbers), made$lists, length(made$names))
   answer <- .Call(C_counts, book, made$text, made$places, made$columns, as.vector(t(numbers)), as.numeric(shape))
   statuses <- as.integer(answer[[1]])

@@ -1,7 +1,7 @@
 -- The texts of a count that ends with a table.
 use Rattle.std.specs.Prelude.{List, Some, length, slice_get, ◌<◌, ◌≡◌, ℕ}
-use Rattle.sl_count_outcomes.specs.Outcomes.{code_names}
-use Rattle.sl_count_outcomes.specs.declared.counting.Counting.{Counting}
+use Rattle.sl_count_calls.specs.Outcomes.{code_names}
+use Rattle.sl_count_calls.specs.declared.counting.Counting.{Counting}
 use Rattle.sl_stages.specs.meaning.Counts.{IsMeantEnd}
 use Rattle.sl_stages.specs.declared.count.Column.{Column}
 use Rattle.sl_stages.specs.declared.count.Counted.{Counted}

@@ -55,7 +55,9 @@ fn answer_to<B: Source>(alloc: Global, book: &mut BookSource<'_, B>) -> Result<A
     ensures book { ReadsBook B.remaining book.old book.new }
 {
     let read = read_book(alloc, book)?;
-    Ok(check_answer(alloc, &read.verdict)?)
+    let answer = check_answer(alloc, &read.verdict);
+    drop(read);
+    Ok(answer?)
 }
 
 /// Checks a rulebook: reads it, and writes the line of a good book, or the line that refuses it (docs/output.md).

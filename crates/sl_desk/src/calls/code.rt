@@ -86,7 +86,9 @@ fn answer_to<B: Source>(
     ensures book { ReadsBook B.remaining book.old book.new }
 {
     let read = read_book(alloc, book)?;
-    Ok(compilation_of(alloc, &read.verdict)?)
+    let compilation = compilation_of(alloc, &read.verdict);
+    drop(read);
+    Ok(compilation?)
 }
 
 /// Compiles a rulebook: reads it, writes its code to `file`, and then the listing of its instructions to `out`; or writes to `out` the line that

@@ -1,7 +1,7 @@
 -- The parts of all that is shown, and where they stand.
 use Rattle.std.specs.Prelude.{List, None, [], length, slice_range, ◌++◌, ◌+◌, ◌≡◌, ℕ}
-use Rattle.sl_count_outcomes.specs.Judged.{IsJudged}
-use Rattle.sl_count_outcomes.specs.declared.judged.Judged.{Judged}
+use Rattle.sl_count_calls.specs.Judged.{IsJudged}
+use Rattle.sl_count_calls.specs.declared.judged.Judged.{Judged}
 use Rattle.sl_stages.specs.declared.count.Records.TheVariants.{Kept}
 use Rattle.sl_count_calls.specs.Counting.{IsOutput, ShowsSeats}
 use Rattle.sl_count_calls.specs.Steps.{ShowsSteps}

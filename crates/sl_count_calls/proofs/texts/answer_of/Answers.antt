@@ -1,5 +1,5 @@
 use Rattle.std.proofs.Common.{ap, subst, ◌∙◌}
-use Rattle.sl_count_outcomes.specs.Judged.{IsJudged}
+use Rattle.sl_count_calls.specs.Judged.{IsJudged}
 use Rattle.sl_count_calls.proofs.AnyInputs.{answers_count, shown_returns}
 use Rattle.sl_count_calls.proofs.texts.answer_of.Goals as goal
 use Rattle.sl_count_calls.specs.Views.{stage_of}

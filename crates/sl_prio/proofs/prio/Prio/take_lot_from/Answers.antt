@@ -17,11 +17,11 @@ pub drawn_at-named-requires-clause-marks : goal.drawn_at-named-requires-clause-m
 drawn_at-named-requires-clause-marks c =
     let held = c.self.inside.entries.items in
     let first = c.in_ok-top.field-0.now in
-    let marks = c.marked_anew-self-inside.new.marks in
+    let marks = c.marked_again-self-inside.new.marks in
     let before = c.self.inside.marks in
     let here = c.deref-4.ensures.value ∙ given_back before.len before.items marks (omega arith) (omega arith) in
     let at : slice_get held 0 ≡ Some first = sym (ap (λ (xs : List Entry). slice_get xs 0) c.deref.ensures.value) ∙ sym c.in_ok-top.ensures.value in
-    let marked = subst (λ (xs : List Entry). HaveMarks (peers xs) marks) c.deref-2.ensures.value c.marked_anew-self-inside.ensures.marks in
+    let marked = subst (λ (xs : List Entry). HaveMarks (peers xs) marks) c.deref-2.ensures.value c.marked_again-self-inside.ensures.marks in
     subst (λ (ms : List Bool). HaveMarks (peers_under first c.deref-3.result.now 0) ms) (sym here)
     (subst (λ (xs : List Entry). HaveMarks (peers_under first xs 0) marks) (sym c.deref-3.ensures.value) (λ x k. marked x (seen_peer held c.self.invariant.kept.heap first at x k)))
 
@@ -30,7 +30,7 @@ drawn_at-named-requires-clause-apart c = λ distinct.
     let held = c.self.inside.entries.items in
     let first = c.in_ok-top.field-0.now in
     let at : slice_get held 0 ≡ Some first = sym (ap (λ (xs : List Entry). slice_get xs 0) c.deref.ensures.value) ∙ sym c.in_ok-top.ensures.value in
-    let apart = subst (λ (xs : List Entry). AreApart (peers xs)) c.deref-2.ensures.value (c.marked_anew-self-inside.ensures.counted.apart distinct) in
+    let apart = subst (λ (xs : List Entry). AreApart (peers xs)) c.deref-2.ensures.value (c.marked_again-self-inside.ensures.counted.apart distinct) in
     subst (λ (xs : List Entry). AreApart (peers_under first xs 0)) (sym c.deref-3.ensures.value) (λ index.
     let most = apart index in
     let same = seen_counts held c.self.invariant.kept.heap first at (λ x. nat_eq x.index index) in
@@ -93,7 +93,7 @@ returns-clause-passed c =
     let of_first = subst (λ (x : Entry). IsDrawnOf lot others x (get_or held place taken)) (get_or_from_slice_get held 0 first taken at) (from.drawn taken) in
     let of_taken = subst (λ (x : Entry). IsDrawnOf lot others first x) (sym c.remove-entry.ensures.value) of_first in
     let peer : Contains (peers held) taken = seen_among held c.self.invariant.kept.heap first at lot taken of_taken in
-    let counted = subst (λ (xs : List Entry). c.marked_anew-self-inside.result.count ≡ length (peers xs)) c.deref-2.ensures.value c.marked_anew-self-inside.ensures.counted.counted in
+    let counted = subst (λ (xs : List Entry). c.marked_again-self-inside.result.count ≡ length (peers xs)) c.deref-2.ensures.value c.marked_again-self-inside.ensures.counted.counted in
     elim c.if-self-gt1.branch [
       | then-self-gt1 w ↦ λ k d l.
           let y = get_or (peers after) k d in

@@ -1,0 +1,17 @@
+use Rattle.std.proofs.Common.{option_map, sym}
+use Rattle.sl_count_calls.proofs.Order.{judged_known, reads_after_good}
+use Rattle.sl_count_calls.proofs.reading.judge_read.Goals as goal
+use Rattle.sl_count_inputs.specs.Reading.{book_input}
+use Rattle.sl_stages.specs.book.Books.{book_of}
+
+pub returns-in-None-clause-judged : goal.returns-in-None-clause-judged
+returns-in-None-clause-judged g c =
+    judged_known (option_map (λ name. name.now) c.args.stage) (book_of c.in-Good.good.book) (sym (rw c.in-None.is at c.unknown.ensures)) c.args.records
+    (book_input g.B.Source.remaining c.args.book.now) (g.R.Source.remaining c.args.returns.now) c.read_on.result
+    (rw c.in-Good.is at c.in_ok-text.ensures.verdict) c.read_on.ensures.judged
+
+pub returns-in-None-clause-returns : goal.returns-in-None-clause-returns
+returns-in-None-clause-returns g c =
+    reads_after_good (option_map (λ name. name.now) c.args.stage) (book_of c.in-Good.good.book) (sym (rw c.in-None.is at c.unknown.ensures)) g.R.Source.remaining
+    (book_input g.B.Source.remaining c.args.book.now) c.args.returns.now c.read_on.new.returns (g.R.Source.failed c.args.returns.now) (g.R.Source.failed c.read_on.new.returns)
+    c.read_on.result (rw c.in-Good.is at c.in_ok-text.ensures.verdict) c.read_on.ensures.limited c.read_on.ensures.failures

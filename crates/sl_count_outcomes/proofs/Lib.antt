@@ -1,4 +1,0 @@
-pub mod Maps
-pub mod StageColumns
-pub mod Ends
-pub mod Order

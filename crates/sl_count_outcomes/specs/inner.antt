@@ -1,2 +1,0 @@
--- Definitions that bodies and proofs alone cite.
-pub mod Held
