@@ -62,7 +62,9 @@ pub extern "C" fn page_show(
     let Ok(judged) = judge(Records::Kept, alloc, BookText::Text(book), None, returns) else {
         return NO_MEMORY;
     };
-    match parts_of(alloc, language, &judged, Texts { book, returns }, names) {
+    let parts = parts_of(alloc, language, &judged, Texts { book, returns }, names);
+    drop(judged);
+    match parts {
         Ok(parts) => hand_parts(alloc, &parts, out, ends),
         Err(_) => NO_MEMORY,
     }

@@ -166,6 +166,22 @@ fn texts_of<'a>(book: Option<BookText<'a>>, returns: &'a [u8]) -> Texts<'a> {
     }
 }
 
+// The totals of returns of these texts, by a book if one is given, and their text.
+fn written_totals(
+    alloc: Global,
+    book: &Option<BookVerdict<'_>>,
+    returns: &ReturnsVerdict,
+    texts: Texts<'_>,
+    names: Option<&[u8]>,
+    style: Style,
+) -> Result<Written, NoMemory>
+    ensures { IfOk result (λ w. IsTotalsBy (is_some names.entry) book.now returns.now w.answer.status (map table_of w.answer.sheets.items)) }
+{
+    let inputs = digested_totals(alloc, book.as_ref(), returns, texts)?;
+    let totals = totals_by(alloc, book, returns, texts, names, style.language)?;
+    Ok(totals.written(alloc, "totals", style, inputs.as_slice())?)
+}
+
 /// The totals of returns, and with a book who takes part by it. Inputs that `count` refuses are refused by the same line, a book before returns;
 /// nothing is counted, so there is no legal fault.
 pub fn totals(
@@ -180,7 +196,8 @@ pub fn totals(
     let texts = texts_of(book, returns);
     let book = judged_book(alloc, book)?;
     let returns = judge_returns(alloc, returns)?;
-    let inputs = digested_totals(alloc, book.as_ref(), &returns, texts)?;
-    let totals = totals_by(alloc, &book, &returns, texts, names, style.language)?;
-    Ok(totals.written(alloc, "totals", style, inputs.as_slice())?)
+    let written = written_totals(alloc, &book, &returns, texts, names, style);
+    drop(returns);
+    drop(book);
+    written
 }

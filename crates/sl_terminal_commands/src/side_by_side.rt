@@ -49,8 +49,8 @@ fn good_books<'a>(
     Ok(good)
 }
 
-// Good rulebooks on good returns, side by side; the statutes of the library where none is given.
-fn comparison(
+// Good rulebooks on good returns, side by side, with full names; the statutes of the library where none is given.
+fn compared(
     alloc: Global,
     books: Vec<NamedBook<'_>>,
     returns: &Returns,
@@ -67,6 +67,22 @@ fn comparison(
     compare_judged(alloc, good, returns, full, language)
 }
 
+// Good rulebooks side by side, with the full names of a file, or the answer that refuses these.
+fn comparison(
+    alloc: Global,
+    books: Vec<NamedBook<'_>>,
+    election: &Returns,
+    names: Result<FullNames, Answer>,
+    language: Language,
+) -> Result<Answer, NoMemory>
+    ensures { IfOk result (λ a. IsDoneOrRefused a.status) }
+{
+    match names {
+        Ok(full) => compared(alloc, books, election, &full, language),
+        Err(refusal) => Ok(Answer::refused(alloc, refusal.line)),
+    }
+}
+
 impl<O: Outside, W: Sink, E: Sink> Terminal<O, W, E> {
     // Writes good rulebooks on good returns side by side, with full names; or the refusal of these.
     #[tactic(auto, using(crate::proofs::Deliveries::ends_early))]
@@ -80,18 +96,8 @@ impl<O: Outside, W: Sink, E: Sink> Terminal<O, W, E> {
         ensures ends { Ends (λ ends _. IsDoneOrRefused ends) (W.contents self.old.out) (W.contents self.new.out) result }
         ensures untold { IfOk result (λ _. TellsNothing self.old self.new) }
     {
-        match names {
-            Ok(full) => {
-                let language = manner.style.language;
-                let answer = comparison(self.alloc, books, election, &full, language)?;
-                let text = manner.text(self.alloc, &answer)?;
-                self.write_text(answer.status, text.as_slice())
-            }
-            Err(refusal) => {
-                let text = manner.text(self.alloc, &refusal)?;
-                self.write_text(Status::Refused, text.as_slice())
-            }
-        }
+        let answer = comparison(self.alloc, books, election, names, manner.style.language)?;
+        self.write_sheets(&answer, manner)
     }
 
     // Writes rulebooks side by side, and warns of the returns; or the refusal of the names.

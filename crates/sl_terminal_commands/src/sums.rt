@@ -8,6 +8,7 @@ ghost use Rattle.sl_count_inputs.specs.declared.status.Input.TheVariants as inpu
 ghost use Rattle.sl_count_inputs.specs.declared.status.Status.TheVariants as status;
 ghost use Rattle.sl_count_inputs.specs.declared.verdict.Verdict.TheVariants.{Refused};
 ghost use Rattle.sl_terminal_commands.specs.Ends.{Ends, IsEarly, IsSilent};
+ghost use Rattle.sl_terminal_commands.specs.Frames.{TellsNothing};
 ghost use Rattle.sl_terminal_commands.specs.Sums.{AreJudged, IsOfSums, IsSummary, IsVerdictOn, given_word};
 ghost use Rattle.sl_terminal_commands.specs.Said.{Says, fault};
 ghost use Rattle.sl_terminal_commands.specs.inner.Verdicts.{IsDoneOrRefused, IsEndBy, IsEndOn, IsOfBoth, IsOfElection};
@@ -22,10 +23,11 @@ use sl_count_inputs::{
     Input, ReadBook, ReadReturns, RefusedElection, Sink, Status, Verdict, read_book, read_election,
 };
 use sl_explain_calls::explain_election;
-use sl_ratio::Method;
-use sl_report_commands::{Answer, FullNames, totals_answer};
+use sl_ratio::{Method, NoMemory};
+use sl_report_commands::{Answer, FullNames, Language, totals_answer};
 use sl_stages::{CheckedBook, Returns};
 use sl_terminal_count::{Outside, open, open_book};
+use std::alloc::Global;
 
 /// A rulebook that was read, with the word that names it, and with the method that took the place of its own, if one did.
 #[derive(Drop)]
@@ -40,6 +42,25 @@ pub(crate) struct NamedBook<'a> {
 pub(crate) struct NamedReturns<'a> {
     pub(crate) path: &'a str,
     pub(crate) read: ReadReturns,
+}
+
+// The sums of good returns, after a good rulebook or none, with full names; or the answer that refuses these.
+fn sums_of(
+    alloc: Global,
+    book: Option<&CheckedBook>,
+    election: &Returns,
+    names: Result<FullNames, Answer>,
+    language: Language,
+) -> Result<Answer, NoMemory>
+    ensures { IfOk result (λ a. IsDoneOrRefused a.status) }
+{
+    match names {
+        Ok(full) => {
+            let book = book.map(|checked| &checked.book);
+            totals_answer(alloc, book, election, &full, language)
+        }
+        Err(refusal) => Ok(Answer::refused(alloc, refusal.line)),
+    }
 }
 
 impl<O: Outside, W: Sink, E: Sink> Terminal<O, W, E> {
@@ -135,6 +156,20 @@ impl<O: Outside, W: Sink, E: Sink> Terminal<O, W, E> {
         Ok(status)
     }
 
+    // Writes an answer, of which no more is told.
+    #[tactic(auto, using(crate::proofs::Deliveries::ends_early))]
+    pub(crate) fn write_sheets<'a>(
+        &mut self,
+        answer: &Answer,
+        manner: Manner<'_>,
+    ) -> Result<Status, Failure<'a, O::Reason>>
+        ensures ends { Ends (λ ends _. ends ≡ answer.now.status) (W.contents self.old.out) (W.contents self.new.out) result }
+        ensures untold { IfOk result (λ _. TellsNothing self.old self.new) }
+    {
+        let text = manner.text(self.alloc, answer)?;
+        self.write_text(answer.status, text.as_slice())
+    }
+
     // Writes the sums of good returns, after a good rulebook or none, with full names; or the refusal of these.
     #[tactic(auto, using(crate::proofs::Deliveries::ends_early))]
     fn write_sums<'a>(
@@ -147,19 +182,8 @@ impl<O: Outside, W: Sink, E: Sink> Terminal<O, W, E> {
         ensures ends { Ends (λ ends _. IsDoneOrRefused ends) (W.contents self.old.out) (W.contents self.new.out) result }
         ensures untold { IfOk result (λ _. self.new.err ≡ self.old.err) }
     {
-        match names {
-            Ok(full) => {
-                let book = book.map(|checked| &checked.book);
-                let language = manner.style.language;
-                let answer = totals_answer(self.alloc, book, election, &full, language)?;
-                let text = manner.text(self.alloc, &answer)?;
-                self.write_text(answer.status, text.as_slice())
-            }
-            Err(refusal) => {
-                let text = manner.text(self.alloc, &refusal)?;
-                self.write_text(Status::Refused, text.as_slice())
-            }
-        }
+        let answer = sums_of(self.alloc, book, election, names, manner.style.language)?;
+        self.write_sheets(&answer, manner)
     }
 
     // Writes the sums of returns, after a good rulebook or none, or refuses the returns.
