@@ -19,8 +19,8 @@ def write(folder, name, text):
     return path
 
 
-def measure(what, words, runs, wanted=0):
-    """Prints the best time of some runs, and the greatest memory."""
+def best_of(words, runs, wanted=0):
+    """The best time of some runs, in seconds, and the greatest memory, in KiB."""
     best, peak = None, 0
     for _ in range(runs):
         start = time.perf_counter()
@@ -30,4 +30,10 @@ def measure(what, words, runs, wanted=0):
         assert os.waitstatus_to_exitcode(status) == wanted, status
         best = took if best is None else min(best, took)
         peak = max(peak, usage.ru_maxrss)
+    return best, peak
+
+
+def measure(what, words, runs, wanted=0):
+    """Prints what best_of tells."""
+    best, peak = best_of(words, runs, wanted)
     print("%-60s %6.3f s, %5.1f MiB" % (what, best, peak / 1024))

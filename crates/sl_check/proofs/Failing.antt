@@ -24,6 +24,22 @@ pub judges_behind : {A : Type 0} (r : Result A CheckFault) (front own all : List
 judges_behind (Ok z) front own all x y parts holds e h = (parts ∙ rw holds h.0, h.1 ∙ e)
 judges_behind (Err f) front own all x y parts holds e h = parts ∙ rw holds h
 
+-- what two expressions fail, they fail with any tests after them
+pub fails_two : (cs : List Column) (a b : ExprTree) (own : List (Test CheckFault)) (f : CheckFault) → first_failing (expr_tests cs a ++ expr_tests cs b) ≡ Some f
+    → first_failing (expr_tests cs a ++ (expr_tests cs b ++ own)) ≡ Some f
+fails_two cs a b own f fails = fails_behind (expr_tests cs a) (expr_tests cs b) own ∙ rw fails refl
+
+-- a column of the types of two expressions, all of whose tests hold
+pub judges_two : (cs : List Column) (a b : ExprTree) (own : ColumnType → ColumnType → List (Test CheckFault)) (has : ColumnType → ColumnType → ColumnType) (r : Result ColumnType CheckFault) (x y : ColumnType)
+    → first_failing (expr_tests cs a ++ expr_tests cs b) ≡ None → ◌≡◌ {A = ColumnType × ColumnType} (x, y) (type_of cs a, type_of cs b)
+    → Judges r (own x y) (has x y)
+    → Judges r (expr_tests cs a ++ (expr_tests cs b ++ own (type_of cs a) (type_of cs b))) (has (type_of cs a) (type_of cs b))
+judges_two cs a b own has r x y holds told judged =
+    let tests = own (type_of cs a) (type_of cs b) in
+    let value = has (type_of cs a) (type_of cs b) in
+    judges_behind r (expr_tests cs a ++ expr_tests cs b) tests (expr_tests cs a ++ (expr_tests cs b ++ tests)) value value (fails_behind (expr_tests cs a) (expr_tests cs b) tests) holds refl
+    (subst (λ (p : ColumnType × ColumnType). Judges r (own p.0 p.1) (has p.0 p.1)) told judged)
+
 -- what three expressions fail, they fail with any tests after them
 pub fails_three : (cs : List Column) (a b c : ExprTree) (own : List (Test CheckFault)) (f : CheckFault) → first_failing (expr_tests cs a ++ (expr_tests cs b ++ expr_tests cs c)) ≡ Some f
     → first_failing (expr_tests cs a ++ (expr_tests cs b ++ (expr_tests cs c ++ own))) ≡ Some f

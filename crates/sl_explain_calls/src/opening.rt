@@ -101,14 +101,15 @@ fn unread(input: Input) -> Message {
     }
 }
 
-// What is said, with what to do.
-fn advise(
+// What is said with these values, and what to do.
+fn explained(
     alloc: Global,
     language: Language,
-    message: Message,
-    remedy: Message,
+    sentence: &Message,
+    values: &[&[u8]],
+    remedy: &Message,
 ) -> Result<Explanation, NoMemory> {
-    let sentence = message.text(alloc, language, &[])?;
+    let sentence = sentence.text(alloc, language, values)?;
     let mut explanation = Explanation::new(alloc, sentence);
     explanation.remedy(remedy.text(alloc, language, &[])?)?;
     Ok(explanation)
@@ -121,8 +122,10 @@ pub fn explain_failure(
     error: DeskError,
 ) -> Result<Option<Explanation>, NoMemory> {
     match error {
-        DeskError::Read(input) => Ok(Some(advise(alloc, language, unread(input), FOLDER)?)),
-        DeskError::Write => Ok(Some(advise(alloc, language, UNWRITTEN, FULL)?)),
+        DeskError::Read(input) => {
+            Ok(Some(explained(alloc, language, &unread(input), &[], &FOLDER)?))
+        },
+        DeskError::Write => { Ok(Some(explained(alloc, language, &UNWRITTEN, &[], &FULL)?)) },
         DeskError::NoMemory => Ok(None),
     }
 }
@@ -135,10 +138,7 @@ pub fn explain_writing(
     reason: &str,
 ) -> Result<Explanation, NoMemory> {
     let values = [path.as_bytes(), reason.as_bytes()];
-    let sentence = NO_OUTPUT.text(alloc, language, &values)?;
-    let mut explanation = Explanation::new(alloc, sentence);
-    explanation.remedy(PATH.text(alloc, language, &[])?)?;
-    Ok(explanation)
+    explained(alloc, language, &NO_OUTPUT, &values, &PATH)
 }
 
 /// The bytes that writing a code file would lose.
@@ -157,12 +157,9 @@ pub fn explain_kept(
     path: &str,
     lost: Lost,
 ) -> Result<Explanation, NoMemory> {
-    let (sentence, remedy) = match lost {
-        Lost::Rulebook => (LOST_BOOK, ANOTHER),
-        Lost::Other => (LOST, FORCE),
-    };
-    let sentence = sentence.text(alloc, language, &[path.as_bytes()])?;
-    let mut explanation = Explanation::new(alloc, sentence);
-    explanation.remedy(remedy.text(alloc, language, &[])?)?;
-    Ok(explanation)
+    let values = [path.as_bytes()];
+    match lost {
+        Lost::Rulebook => explained(alloc, language, &LOST_BOOK, &values, &ANOTHER),
+        Lost::Other => explained(alloc, language, &LOST, &values, &FORCE),
+    }
 }

@@ -160,10 +160,18 @@ fn run_with<R: Recording>(
     let code = code.code();
     let way = Way::of::<R>(alloc, code)?;
     let mut store = Store::start(alloc, code, returns)?;
-    match steps::<R>(&mut store, code, returns, &way, budget)? {
+    let end = steps::<R>(&mut store, code, returns, &way, budget)?;
+    drop(way);
+    match end {
         Some(End::Halted { base, vacant }) => Ok(Ending::Done(Memory::new(store, base, vacant))),
-        Some(End::Faulted(fault)) => Ok(Ending::Fault(fault)),
-        None => Ok(Ending::OutOfBudget),
+        Some(End::Faulted(fault)) => {
+            drop(store);
+            Ok(Ending::Fault(fault))
+        }
+        None => {
+            drop(store);
+            Ok(Ending::OutOfBudget)
+        }
     }
 }
 

@@ -90,67 +90,66 @@ impl Store {
         ensures ends { IfOk result (λ next. IfNone next (IsTrue (ends_run instr.now) × (self.new ≡ self.old))) }
         ensures kept { sizes_of self.new ≡ sizes_of self.old }
     {
-        match *instr {
-            Instr::Set(register, value) => Ok(Some(self.set(register, value))),
-            Instr::Mov(register, from) => Ok(Some(self.copy(register, from))),
-            Instr::Add(register, by) => Ok(Some(self.add(register, by))),
-            Instr::Sub(register, by) => Ok(Some(self.subtract(register, by))),
-            Instr::Mul(register, by) => Ok(Some(self.multiply(register, by))),
-            Instr::Div(register, by) => Ok(Some(self.divide(register, by))),
-            Instr::Rem(register, by) => Ok(Some(self.keep_rest(register, by))),
-            Instr::Max(register, by) => Ok(Some(self.keep_greater(register, by))),
-            Instr::Jmp(target) => Ok(Some(Effect::Jumps(target))),
-            Instr::Jz(register, target) => Ok(Some(self.jump_if_zero(register, target))),
-            Instr::Jlt(left, right, target) => Ok(Some(self.jump_if_less(left, right, target))),
-            Instr::Jnl(target) => Ok(Some(self.jump_without_list(returns, target))),
-            Instr::Get(register, slot) => Ok(Some(self.get_cell(code, returns, register, slot))),
-            Instr::Store(slot, register) => Ok(Some(self.store_cell(
-                code, returns, slot, register,
-            )?)),
-            Instr::Zero(slot) => Ok(Some(self.zero_column(slot))),
+        let effect = match *instr {
+            Instr::Set(register, value) => self.set(register, value),
+            Instr::Mov(register, from) => self.copy(register, from),
+            Instr::Add(register, by) => self.add(register, by),
+            Instr::Sub(register, by) => self.subtract(register, by),
+            Instr::Mul(register, by) => self.multiply(register, by),
+            Instr::Div(register, by) => self.divide(register, by),
+            Instr::Rem(register, by) => self.keep_rest(register, by),
+            Instr::Max(register, by) => self.keep_greater(register, by),
+            Instr::Jmp(target) => Effect::Jumps(target),
+            Instr::Jz(register, target) => self.jump_if_zero(register, target),
+            Instr::Jlt(left, right, target) => self.jump_if_less(left, right, target),
+            Instr::Jnl(target) => self.jump_without_list(returns, target),
+            Instr::Get(register, slot) => self.get_cell(code, returns, register, slot),
+            Instr::Store(slot, register) => self.store_cell(code, returns, slot, register)?,
+            Instr::Zero(slot) => self.zero_column(slot),
             Instr::Input(slot, input) => {
                 self.input_column(returns, slot, input)?;
-                Ok(Some(Effect::Goes))
+                Effect::Goes
             }
-            Instr::House(register) => Ok(Some(self.set_house(returns, register))),
-            Instr::Wparty(target) => Ok(Some(self.to_winners_party(returns, target))),
-            Instr::Wland => Ok(Some(self.to_winners_land(returns))),
-            Instr::Fparty(target) => Ok(Some(self.first_party(returns, target))),
-            Instr::Nparty(target) => Ok(Some(self.next_party(returns, target))),
-            Instr::Fland(target) => Ok(Some(self.first_land(returns, target))),
-            Instr::Nland(target) => Ok(Some(self.next_land(returns, target))),
-            Instr::Fwin(target) => Ok(Some(self.first_win(returns, target))),
-            Instr::Nwin(target) => Ok(Some(self.next_win(returns, target))),
-            Instr::Table(entries, ranking) => Ok(Some(self.open_table(entries, ranking))),
-            Instr::Prio(method, weight, seats) => Ok(Some(self.enter_quotient(
+            Instr::House(register) => self.set_house(returns, register),
+            Instr::Wparty(target) => self.to_winners_party(returns, target),
+            Instr::Wland => self.to_winners_land(returns),
+            Instr::Fparty(target) => self.first_party(returns, target),
+            Instr::Nparty(target) => self.next_party(returns, target),
+            Instr::Fland(target) => self.first_land(returns, target),
+            Instr::Nland(target) => self.next_land(returns, target),
+            Instr::Fwin(target) => self.first_win(returns, target),
+            Instr::Nwin(target) => self.next_win(returns, target),
+            Instr::Table(entries, ranking) => self.open_table(entries, ranking),
+            Instr::Prio(method, weight, seats) => self.enter_quotient(
                 returns, method, weight, seats,
-            )?)),
-            Instr::Rest(register) => Ok(Some(self.enter_remainder(returns, register)?)),
-            Instr::Lead => Ok(Some(self.enter_lead(returns)?)),
-            Instr::Share => Ok(Some(self.enter_share(returns)?)),
-            Instr::Peers(register, target) => Ok(Some(self.count_peers(register, target))),
-            Instr::Take => Ok(Some(self.take_top(returns))),
-            Instr::Lot(stage, target) => Ok(Some(self.jump_without_lot(code, stage, target))),
-            Instr::Takelot(stage) => Ok(Some(self.take_drawn(code, returns, stage))),
+            )?,
+            Instr::Rest(register) => self.enter_remainder(returns, register)?,
+            Instr::Lead => self.enter_lead(returns)?,
+            Instr::Share => self.enter_share(returns)?,
+            Instr::Peers(register, target) => self.count_peers(register, target),
+            Instr::Take => self.take_top(returns),
+            Instr::Lot(stage, target) => self.jump_without_lot(code, stage, target),
+            Instr::Takelot(stage) => self.take_drawn(code, returns, stage),
             Instr::Emit(stage, scope, number, step) => match R::records() {
-                Records::Kept => Ok(Some(self.emit(code, returns, stage, scope, number, step)?)),
-                Records::Dropped => Ok(Some(Effect::Goes)),
+                Records::Kept => self.emit(code, returns, stage, scope, number, step)?,
+                Records::Dropped => Effect::Goes,
             },
             Instr::Given(stage, scope, number) => match R::records() {
-                Records::Kept => Ok(Some(self.emit_given(code, returns, stage, scope, number)?)),
-                Records::Dropped => Ok(Some(Effect::Goes)),
+                Records::Kept => self.emit_given(code, returns, stage, scope, number)?,
+                Records::Dropped => Effect::Goes,
             },
-            Instr::Fault(..) | Instr::Tie(..) | Instr::Halt(..) | Instr::Haltv(..) => Ok(None),
-            Instr::Seat => Ok(Some(self.seat_on_list(returns))),
-            Instr::Single => Ok(Some(self.seat_as_single(returns))),
-            Instr::At(..) => Ok(Some(Effect::Goes)),
+            Instr::Fault(..) | Instr::Tie(..) | Instr::Halt(..) | Instr::Haltv(..) => return Ok(
+                None,
+            ),
+            Instr::Seat => self.seat_on_list(returns),
+            Instr::Single => self.seat_as_single(returns),
+            Instr::At(..) => Effect::Goes,
             Instr::Weigh(stage, scope, rounding, weight) => match R::records() {
-                Records::Kept => Ok(Some(self.weigh(
-                    code, returns, stage, scope, rounding, weight,
-                )?)),
-                Records::Dropped => Ok(Some(Effect::Goes)),
+                Records::Kept => self.weigh(code, returns, stage, scope, rounding, weight)?,
+                Records::Dropped => Effect::Goes,
             },
-        }
+        };
+        Ok(Some(effect))
     }
 
     /// The end that an instruction gives the run.

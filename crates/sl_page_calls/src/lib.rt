@@ -6,8 +6,9 @@
 //! Where an error is `NoMemory` alone, memory ran out, and nothing else is wrong.
 #![tactic(auto)]
 
-ghost use Rattle.std.specs.Prelude.{◌≡◌, ◌≤◌, None, length, take};
+ghost use Rattle.std.specs.Prelude.{◌≡◌, ◌≤◌, None, length, option_map, take};
 ghost use Rattle.sl_count_inputs.specs.Books.{text};
+ghost use Rattle.sl_count_inputs.specs.Judging.{input_of};
 ghost use Rattle.sl_desk.specs.Checking.{IsCheckOutput};
 ghost use Rattle.sl_desk.specs.Running.{IsRunCode};
 ghost use Rattle.sl_explain_texts.specs.Codes.{code_named};
@@ -16,7 +17,8 @@ ghost use Rattle.sl_count_inputs.specs.Library.{IsLawOutput};
 ghost use Rattle.sl_count_calls.specs.Showing.{IsStageOutput};
 ghost use Rattle.sl_count_calls.specs.Steps.{ShowsSteps};
 ghost use Rattle.sl_page_calls.specs.Coding.{AreCodeEnds, HandsCode};
-ghost use Rattle.sl_page_calls.specs.Handing.{HandsOver};
+ghost use Rattle.sl_page_calls.specs.Handing.{HandsOver, HandsStatus};
+ghost use Rattle.sl_page_calls.specs.Reporting.{AreTotalled, IsReported, given_book};
 ghost use Rattle.sl_page_calls.specs.Showing.{AreEnds, ShowsAll};
 ghost use Rattle.sl_page_calls.specs.Telling.{TellsCheck, TellsCode, TellsCount, TellsRun};
 
@@ -209,11 +211,23 @@ pub extern "C" fn page_report(
     out: &mut [u8],
     count: &mut usize,
 ) -> u32
-    ensures { count.new ≤ length out.new }
+    ensures status { HandsStatus (IsReported book.now returns.now names.now) result }
+    ensures within { count.new ≤ length out.new }
 {
     let style = Style::json(language_of(language));
     let written = report(alloc, BookText::Text(book), returns, Some(names), style);
     hand_written(written, out, count)
+}
+
+// A rulebook, if it has bytes.
+fn given(book: &[u8]) -> Option<BookText<'_>>
+    ensures { option_map input_of result ≡ given_book book.now }
+{
+    if book.is_empty() {
+        None
+    } else {
+        Some(BookText::Text(book))
+    }
 }
 
 /// The JSON of `totals` for these returns, with a book if it has bytes; language and names as in `page_report`.
@@ -227,15 +241,12 @@ pub extern "C" fn page_totals(
     out: &mut [u8],
     count: &mut usize,
 ) -> u32
-    ensures { count.new ≤ length out.new }
+    ensures status { HandsStatus (AreTotalled book.now returns.now names.now) result }
+    ensures within { count.new ≤ length out.new }
 {
-    let book = if book.is_empty() {
-        None
-    } else {
-        Some(BookText::Text(book))
-    };
     let style = Style::json(language_of(language));
-    hand_written(totals(alloc, book, returns, Some(names), style), out, count)
+    let written = totals(alloc, given(book), returns, Some(names), style);
+    hand_written(written, out, count)
 }
 
 /// The JSON of `compare` for these returns by rulebooks, whose words stand on a line each: a word with `@` is that of a statute of the library, and

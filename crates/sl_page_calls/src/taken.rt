@@ -2,6 +2,7 @@
 
 ghost use Rattle.std.specs.Prelude.{◌≡◌, ◌<◌, ◌≤◌, Some, Ok, [], length, take};
 ghost use Rattle.sl_count_inputs.specs.Statuses.{status_number};
+ghost use Rattle.sl_report_commands.specs.declared.written.Written.{Written};
 
 use sl_desk::{DeskError, Failed, Sink, Status};
 use sl_ratio::NoMemory;
@@ -95,7 +96,8 @@ pub(crate) fn hand_written(
     out: &mut [u8],
     count: &mut usize,
 ) -> u32
-    ensures { count.new ≤ length out.new }
+    ensures text { result < 5 → (w : Written) × (written ≡ Ok w) × (result ≡ status_number w.answer.status) × (take count.new out.new ≡ w.text.items) }
+    ensures within { count.new ≤ length out.new }
 {
     *count = 0;
     match written {

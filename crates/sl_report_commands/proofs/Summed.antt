@@ -21,22 +21,22 @@ use Rattle.sl_stages.proofs.meaning.Members.{all_and_one}
 use Rattle.sl_stages.specs.declared.checked.CheckedBook.{CheckedBook}
 use Rattle.sl_stages.specs.returns.Election.{Election}
 
-module _ (is_named : Bool) (returns : List ℕ) (ends : Status) (tables : List Table) where
+module _ (are_refused : Bool) (returns : List ℕ) (ends : Status) (tables : List Table) where
   pub totals_of : (input : Option BookInput) (book : Option (Verdict CheckedBook RefusedBook)) (v : Verdict Election RefusedElection) → IsJudgedBook input book
-      → IsReturnsVerdict returns (election_verdict v) → IsTotalsBy is_named book v ends tables → IsTotals is_named input returns ends tables
-  totals_of None None (Good e) by on (inl h) = inl (e, None, on, tt, h.0, h.1)
+      → IsReturnsVerdict returns (election_verdict v) → IsTotalsBy are_refused book v ends tables → IsTotals are_refused input returns ends tables
+  totals_of None None (Good e) by on (inl h) = inl (e, None, on, tt, h.0, h.1, h.2)
   totals_of None None (Good e) by on (inr h) = inr (h.1, inr (inr h.0))
   totals_of None None (Refused why) by on h = inr (h, inl (returns_refusal_of why, on))
   totals_of None (Some verdict) v by on h = absurd by
   totals_of (Some input) None v by on h = absurd by
-  totals_of (Some input) (Some (Good checked)) (Good e) by on (inl h) = inl (e, Some checked.book, on, by, h.0, h.1)
+  totals_of (Some input) (Some (Good checked)) (Good e) by on (inl h) = inl (e, Some checked.book, on, by, h.0, h.1, h.2)
   totals_of (Some input) (Some (Good checked)) (Good e) by on (inr h) = inr (h.1, inr (inr h.0))
   totals_of (Some input) (Some (Good checked)) (Refused why) by on h = inr (h, inl (returns_refusal_of why, on))
   totals_of (Some input) (Some (Refused why)) v by on h = inr (h, inr (inl (refusal_of why, by)))
 
   pub comparison_of : (books : List Named) (v : Verdict Election RefusedElection) → IsReturnsVerdict returns (election_verdict v)
-      → IsComparisonBy is_named books v ends tables → IsComparison is_named books returns ends tables
-  comparison_of books (Good e) on (inl (good, are, inl h)) = inl (e, good, on, are, h.0, h.1)
+      → IsComparisonBy are_refused books v ends tables → IsComparison are_refused books returns ends tables
+  comparison_of books (Good e) on (inl (good, are, inl h)) = inl (e, good, on, are, h.0, h.1, h.2)
   comparison_of books (Good e) on (inl (good, are, inr h)) = inr (h.1, inr (inr h.0))
   comparison_of books (Good e) on (inr h) = inr (h.0, inr (inl h.1))
   comparison_of books (Refused why) on h = inr (h, inl (returns_refusal_of why, on))

@@ -1,5 +1,5 @@
 -- The statuses of `report` and `stages` (docs/report.md).
-use Rattle.std.specs.Prelude.{Bool, List, None, true, ◌⊎◌, ◌≡◌, ℕ}
+use Rattle.std.specs.Prelude.{Bool, List, None, false, true, ◌&&◌, ◌⊎◌, ◌≡◌, ℕ}
 use Rattle.sl_count_inputs.specs.Books.{BookInput}
 use Rattle.sl_count_inputs.specs.declared.status.Status.TheVariants as status
 use Rattle.sl_count_inputs.specs.declared.status.Status.{Status}
@@ -16,7 +16,19 @@ judged_status (StageUnknown book name) = status.Refused
 judged_status (ReturnsRefused returns) = status.Refused
 judged_status (Counted counting) = end_status counting.outcome.end
 
--- the status of a command that reports: that of what its inputs come to, or where names are given that of refused names
-abbrev pub IsReportStatus : (is_named : Bool) → BookInput → List ℕ → Status → Type 0
-IsReportStatus is_named input returns ends =
-    (judged : Judged) × IsJudged Kept None input returns judged × ((ends ≡ judged_status judged) ⊎ ((is_named ≡ true) × (ends ≡ status.Refused)))
+-- inputs come to a count, which is shown with names
+abbrev pub is_counted : Judged → Bool
+is_counted (BookRefused book) = false
+is_counted (StageUnknown book name) = false
+is_counted (ReturnsRefused returns) = false
+is_counted (Counted counting) = true
+
+-- names stop what would be shown with them: they are refused, and there is a count
+abbrev pub is_stopped : (are_refused : Bool) → Judged → Bool
+is_stopped are_refused judged = are_refused && is_counted judged
+
+-- the status of a command that reports: that of what its inputs come to, and 2 where the names of a count are refused
+abbrev pub IsReportStatus : (are_refused : Bool) → BookInput → List ℕ → Status → Type 0
+IsReportStatus are_refused input returns ends =
+    (judged : Judged) × IsJudged Kept None input returns judged
+    × (((is_stopped are_refused judged ≡ false) × (ends ≡ judged_status judged)) ⊎ ((is_stopped are_refused judged ≡ true) × (ends ≡ status.Refused)))

@@ -1,6 +1,6 @@
 -- What `totals` and `compare` answer: their status and their tables, from the bytes of the inputs (docs/report.md).
 use Rattle.std.specs.List.{AllZip}
-use Rattle.std.specs.Prelude.{Any, Bool, List, None, Option, Some, [], true, ◌⊎◌, ◌≡◌, ℕ}
+use Rattle.std.specs.Prelude.{Any, Bool, List, None, Option, Some, [], false, true, ◌⊎◌, ◌≡◌, ℕ}
 use Rattle.sl_count_inputs.specs.Books.{BookInput, IsBookVerdict}
 use Rattle.sl_count_inputs.specs.Judging.{input_of}
 use Rattle.sl_count_inputs.specs.Returns.{IsReturnsVerdict}
@@ -44,11 +44,11 @@ abbrev pub IsRefusedGiven : Option BookInput → Type 0
 IsRefusedGiven None = ⊥
 IsRefusedGiven (Some input) = IsRefusedBook input
 
--- the totals of good inputs; or a refusal, where one of them is refused or names are given
-abbrev pub IsTotals : (is_named : Bool) → Option BookInput → List ℕ → Status → List Table → Type 0
-IsTotals is_named input returns ends tables =
-    ((e : Election) × (book : Option Book) × IsReturnsVerdict returns (Good e) × IsGoodBook input book × (ends ≡ status.Done) × AreTotals book e tables)
-    ⊎ (IsRefusal ends tables × (AreRefused returns ⊎ (IsRefusedGiven input ⊎ (is_named ≡ true))))
+-- the totals of good inputs, where the names are good; or a refusal, where one of them is refused
+abbrev pub IsTotals : (are_refused : Bool) → Option BookInput → List ℕ → Status → List Table → Type 0
+IsTotals are_refused input returns ends tables =
+    ((e : Election) × (book : Option Book) × IsReturnsVerdict returns (Good e) × IsGoodBook input book × (are_refused ≡ false) × (ends ≡ status.Done) × AreTotals book e tables)
+    ⊎ (IsRefusal ends tables × (AreRefused returns ⊎ (IsRefusedGiven input ⊎ (are_refused ≡ true))))
 
 -- of what inputs of a count come to: of good ones, and else a refusal
 abbrev pub IsTotalsOfJudged : Judged → Status → List Table → Type 0
@@ -63,8 +63,8 @@ IsTotalsOfJudged (ReturnsRefused returns) ends tables = IsRefusal ends tables
 abbrev pub IsGoodNamed : Named → Compared → Type 0
 IsGoodNamed named c = (c.word.now ≡ named.word.now) × IsBookVerdict (input_of named.book) (Good (book_of c.book.book))
 
--- the rulebooks side by side, where they and the returns are good; or a refusal, where one of them is refused or names are given
-abbrev pub IsComparison : (is_named : Bool) → List Named → List ℕ → Status → List Table → Type 0
-IsComparison is_named named returns ends tables =
-    ((e : Election) × (books : List Compared) × IsReturnsVerdict returns (Good e) × AllZip IsGoodNamed named books × (ends ≡ status.Done) × ShowsCompared e books tables)
-    ⊎ (IsRefusal ends tables × (AreRefused returns ⊎ (Any (λ n. IsRefusedBook (input_of n.book)) named ⊎ (is_named ≡ true))))
+-- the rulebooks side by side, where they, the returns and the names are good; or a refusal, where one of them is refused
+abbrev pub IsComparison : (are_refused : Bool) → List Named → List ℕ → Status → List Table → Type 0
+IsComparison are_refused named returns ends tables =
+    ((e : Election) × (books : List Compared) × IsReturnsVerdict returns (Good e) × AllZip IsGoodNamed named books × (are_refused ≡ false) × (ends ≡ status.Done) × ShowsCompared e books tables)
+    ⊎ (IsRefusal ends tables × (AreRefused returns ⊎ (Any (λ n. IsRefusedBook (input_of n.book)) named ⊎ (are_refused ≡ true))))

@@ -1,7 +1,7 @@
 //! The command that shows several rulebooks side by side: `compare`.
 
 ghost use Rattle.std.specs.List.{AllZip};
-ghost use Rattle.std.specs.Prelude.{◌⊎◌, ◌≡◌, ◌++◌, Any, IfErr, IfOk, OnOk, is_some, map};
+ghost use Rattle.std.specs.Prelude.{◌⊎◌, ◌≡◌, ◌++◌, Any, IfErr, IfOk, OnOk, map, option_map};
 ghost use Rattle.sl_count_inputs.specs.Judging.{input_of};
 ghost use Rattle.sl_count_inputs.specs.declared.status.Status.TheVariants.{Done, Refused};
 ghost use Rattle.sl_report_commands.specs.Digests.{compared_digests, digests, is_whole, named_digest};
@@ -9,6 +9,7 @@ ghost use Rattle.sl_report_commands.specs.Compared.{IsComparedTo, ShowsCompared,
 ghost use Rattle.sl_report_commands.specs.Summaries.{IsComparison, IsGoodNamed, IsRefusal, IsRefusedBook};
 ghost use Rattle.sl_report_commands.specs.inner.Answered.{IsComparisonBy, IsComparisonOn, IsNamedComparison};
 ghost use Rattle.sl_report_forms.specs.Tables.{table_of};
+ghost use Rattle.sl_report_tables.specs.Names.{are_refused};
 
 use crate::further::add_refused;
 use crate::sums::ReturnsVerdict;
@@ -128,7 +129,7 @@ fn compare_named(
     names: Option<&[u8]>,
     language: Language,
 ) -> Result<Answer, NoMemory>
-    ensures { IfOk result (λ a. IsNamedComparison (is_some names.entry) books.entry.items returns.now a.status (map table_of a.sheets.items)) }
+    ensures { IfOk result (λ a. IsNamedComparison (are_refused (option_map (λ text. text.now) names.entry)) books.entry.items returns.now a.status (map table_of a.sheets.items)) }
 {
     match names_of(alloc, names)? {
         Ok(full) => Ok(compare_judged(alloc, books, returns, &full, language)?),
@@ -218,7 +219,7 @@ fn compare_on<'a>(
     names: Option<&[u8]>,
     language: Language,
 ) -> Result<Reasoned<'a>, NoMemory>
-    ensures { IfOk result (λ r. IsComparisonOn (is_some names.entry) books.now returns.now r.answer.status (map table_of r.answer.sheets.items)) }
+    ensures { IfOk result (λ r. IsComparisonOn (are_refused (option_map (λ text. text.now) names.entry)) books.now returns.now r.answer.status (map table_of r.answer.sheets.items)) }
 {
     match good_books(alloc, books)? {
         Ok(good) => Ok(Reasoned {
@@ -261,7 +262,7 @@ fn compare_by<'a>(
     names: Option<&[u8]>,
     language: Language,
 ) -> Result<Reasoned<'a>, NoMemory>
-    ensures { IfOk result (λ r. IsComparisonBy (is_some names.entry) books.now returns.now r.answer.status (map table_of r.answer.sheets.items)) }
+    ensures { IfOk result (λ r. IsComparisonBy (are_refused (option_map (λ text. text.now) names.entry)) books.now returns.now r.answer.status (map table_of r.answer.sheets.items)) }
 {
     match returns {
         Verdict::Good(returns) => compare_on(alloc, books, returns, names, language),
@@ -279,7 +280,7 @@ pub fn compare(
     names: Option<&[u8]>,
     style: Style,
 ) -> Result<Written, NoMemory>
-    ensures { IfOk result (λ w. IsComparison (is_some names.entry) books.now returns.now w.answer.status (map table_of w.answer.sheets.items)) }
+    ensures { IfOk result (λ w. IsComparison (are_refused (option_map (λ text. text.now) names.entry)) books.now returns.now w.answer.status (map table_of w.answer.sheets.items)) }
 {
     let inputs = digested_books(alloc, books, returns)?;
     let judged = judge_returns(alloc, returns)?;

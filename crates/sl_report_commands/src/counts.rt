@@ -1,18 +1,17 @@
 //! The commands that show one count: `report` and `stages`.
 
-ghost use Rattle.std.specs.Prelude.{◌≡◌, [], IfErr, IfOk, false, is_some, length, map};
-ghost use Rattle.std.specs.Result.{is_ok};
+ghost use Rattle.std.specs.Prelude.{◌≡◌, IfErr, IfOk, is_err, length, map, option_map};
 ghost use Rattle.sl_report_forms.specs.Tables.{table_of};
 ghost use Rattle.sl_report_tables.specs.Ends.{end_status};
+ghost use Rattle.sl_report_tables.specs.Names.{are_refused};
 ghost use Rattle.sl_report_tables.specs.Reports.{Shows};
 ghost use Rattle.sl_count_calls.specs.Fitting.{FitsJudged};
 ghost use Rattle.sl_stages.specs.meaning.Counts.{IsMeantEnd};
 ghost use Rattle.sl_count_calls.specs.Outcomes.{FitsEnd, FitsOutcome};
 ghost use Rattle.sl_stages.specs.declared.count.Records.TheVariants.{Kept};
 ghost use Rattle.sl_count_inputs.specs.Judging.{input_of};
-ghost use Rattle.sl_count_inputs.specs.declared.status.Status.TheVariants as status;
 ghost use Rattle.sl_report_commands.specs.Reports.{IsReport, IsShown, ShowsJudged};
-ghost use Rattle.sl_report_commands.specs.Statuses.{judged_status};
+ghost use Rattle.sl_report_commands.specs.Statuses.{is_stopped, judged_status};
 ghost use Rattle.sl_report_commands.specs.Summaries.{IsRefusal};
 ghost use Rattle.sl_stages.specs.book.Books.{book_of};
 
@@ -92,9 +91,10 @@ fn named_answer(
 ) -> Result<Result<Answer, Answer>, NoMemory>
     requires meant { IsMeantEnd Kept (book_of counting.now.book.book) counting.now.returns counting.now.outcome.end }
     requires fits { FitsOutcome (book_of counting.now.book.book) counting.now.returns counting.now.outcome }
+    ensures which { IfOk result (λ r. is_err r ≡ is_err names.now) }
     ensures shown { IfOk result (λ r. IfOk r (λ a. a.status ≡ end_status counting.now.outcome.end)) }
     ensures tables { IfOk result (λ r. IfOk r (λ a. Shows counting.now.book.book counting.now.returns show.entry counting.now.outcome.end (map table_of a.sheets.items))) }
-    ensures refused { IfOk result (λ r. IfErr r (λ a. (is_ok names.now ≡ false) × (a.status ≡ status.Refused) × (map table_of a.sheets.items ≡ []))) }
+    ensures refused { IfOk result (λ r. IfErr r (λ a. IsRefusal a.status (map table_of a.sheets.items))) }
 {
     match names {
         Ok(full) => Ok(Ok(answer_count(
@@ -120,9 +120,10 @@ pub fn answer_judged(
     language: Language,
 ) -> Result<Result<Answer, Answer>, NoMemory>
     requires fits { FitsJudged Kept judged.now }
+    ensures which { IfOk result (λ r. is_err r ≡ is_stopped (is_err names.now) judged.now) }
     ensures shown { IfOk result (λ r. IfOk r (λ a. a.status ≡ judged_status judged.now)) }
     ensures tables { IfOk result (λ r. IfOk r (λ a. ShowsJudged show.entry judged.now (map table_of a.sheets.items))) }
-    ensures refused { IfOk result (λ r. IfErr r (λ a. (is_ok names.now ≡ false) × (a.status ≡ status.Refused) × (map table_of a.sheets.items ≡ []))) }
+    ensures refused { IfOk result (λ r. IfErr r (λ a. IsRefusal a.status (map table_of a.sheets.items))) }
 {
     match judged {
         Judged::Counted(counting) => named_answer(alloc, show, counting, names, language),
@@ -142,7 +143,7 @@ fn shown(
     style: Style,
 ) -> Result<Written, NoMemory>
     requires fits { FitsJudged Kept judged.now }
-    ensures { IfOk result (λ w. IsShown show.entry (is_some names.entry) judged.now w.answer.status (map table_of w.answer.sheets.items)) }
+    ensures { IfOk result (λ w. IsShown show.entry (are_refused (option_map (λ text. text.now) names.entry)) judged.now w.answer.status (map table_of w.answer.sheets.items)) }
 {
     let names = names_of(alloc, names)?;
     let answer = answer_judged(alloc, show, judged, &names, style.language)?;
@@ -162,7 +163,7 @@ fn one_book(
     names: Option<&[u8]>,
     style: Style,
 ) -> Result<Written, NoMemory>
-    ensures { IfOk result (λ w. IsReport show.entry (is_some names.entry) (input_of book.entry) returns.now w.answer.status (map table_of w.answer.sheets.items)) }
+    ensures { IfOk result (λ w. IsReport show.entry (are_refused (option_map (λ text. text.now) names.entry)) (input_of book.entry) returns.now w.answer.status (map table_of w.answer.sheets.items)) }
 {
     let judged = judge(Records::Kept, alloc, book, None, returns)?;
     let texts = Texts {
@@ -182,7 +183,7 @@ pub fn report(
     names: Option<&[u8]>,
     style: Style,
 ) -> Result<Written, NoMemory>
-    ensures { IfOk result (λ w. IsReport Show.Report (is_some names.entry) (input_of book.entry) returns.now w.answer.status (map table_of w.answer.sheets.items)) }
+    ensures { IfOk result (λ w. IsReport Show.Report (are_refused (option_map (λ text. text.now) names.entry)) (input_of book.entry) returns.now w.answer.status (map table_of w.answer.sheets.items)) }
 {
     one_book(alloc, Show::Report, book, returns, names, style)
 }
@@ -195,7 +196,7 @@ pub fn stages(
     names: Option<&[u8]>,
     style: Style,
 ) -> Result<Written, NoMemory>
-    ensures { IfOk result (λ w. IsReport Show.Stages (is_some names.entry) (input_of book.entry) returns.now w.answer.status (map table_of w.answer.sheets.items)) }
+    ensures { IfOk result (λ w. IsReport Show.Stages (are_refused (option_map (λ text. text.now) names.entry)) (input_of book.entry) returns.now w.answer.status (map table_of w.answer.sheets.items)) }
 {
     one_book(alloc, Show::Stages, book, returns, names, style)
 }

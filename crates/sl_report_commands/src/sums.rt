@@ -1,12 +1,13 @@
 //! The command that adds up returns: `totals`.
 
-ghost use Rattle.std.specs.Prelude.{◌≡◌, IfErr, IfOk, false, is_some, map, option_map};
-ghost use Rattle.std.specs.Result.{is_ok};
+ghost use Rattle.std.specs.Prelude.{◌≡◌, IfErr, IfOk, is_err, map, option_map};
 ghost use Rattle.sl_count_inputs.specs.Judging.{input_of};
 ghost use Rattle.sl_report_commands.specs.Digests.{digests, totals_digests};
+ghost use Rattle.sl_report_commands.specs.Statuses.{is_stopped};
 ghost use Rattle.sl_report_commands.specs.Summaries.{IsRefusal, IsTotals, IsTotalsOfJudged};
 ghost use Rattle.sl_report_commands.specs.inner.Answered.{IsJudgedBook, IsNamedTotals, IsTotalsBy, IsTotalsOn};
 ghost use Rattle.sl_report_forms.specs.Tables.{table_of};
+ghost use Rattle.sl_report_tables.specs.Names.{are_refused};
 
 use crate::counts::{again, refusal_line};
 use crate::written::{
@@ -37,7 +38,7 @@ fn named_totals(
     names: Option<&[u8]>,
     language: Language,
 ) -> Result<Answer, NoMemory>
-    ensures { IfOk result (λ a. IsNamedTotals (is_some names.entry) (option_map (λ b. b.now) book.entry) returns.now a.status (map table_of a.sheets.items)) }
+    ensures { IfOk result (λ a. IsNamedTotals (are_refused (option_map (λ text. text.now) names.entry)) (option_map (λ b. b.now) book.entry) returns.now a.status (map table_of a.sheets.items)) }
 {
     match names_of(alloc, names)? {
         Ok(full) => Ok(totals_answer(alloc, book, returns, &full, language)?),
@@ -54,7 +55,7 @@ fn totals_on<'a>(
     names: Option<&[u8]>,
     language: Language,
 ) -> Result<Reasoned<'a>, NoMemory>
-    ensures { IfOk result (λ r. IsTotalsOn (is_some names.entry) (option_map (λ b. b.now) book.entry) returns.now r.answer.status (map table_of r.answer.sheets.items)) }
+    ensures { IfOk result (λ r. IsTotalsOn (are_refused (option_map (λ text. text.now) names.entry)) (option_map (λ b. b.now) book.entry) returns.now r.answer.status (map table_of r.answer.sheets.items)) }
 {
     match returns {
         Verdict::Good(returns) => Ok(Reasoned {
@@ -74,7 +75,7 @@ fn totals_by<'a>(
     names: Option<&[u8]>,
     language: Language,
 ) -> Result<Reasoned<'a>, NoMemory>
-    ensures { IfOk result (λ r. IsTotalsBy (is_some names.entry) book.now returns.now r.answer.status (map table_of r.answer.sheets.items)) }
+    ensures { IfOk result (λ r. IsTotalsBy (are_refused (option_map (λ text. text.now) names.entry)) book.now returns.now r.answer.status (map table_of r.answer.sheets.items)) }
 {
     match book {
         None => totals_on(alloc, None, returns, texts.returns, names, language),
@@ -102,8 +103,9 @@ pub fn totals_judged(
     names: &Result<FullNames, Answer>,
     language: Language,
 ) -> Result<Result<Answer, Answer>, NoMemory>
+    ensures which { IfOk result (λ r. is_err r ≡ is_stopped (is_err names.now) judged.now) }
     ensures shown { IfOk result (λ r. IfOk r (λ a. IsTotalsOfJudged judged.now a.status (map table_of a.sheets.items))) }
-    ensures refused { IfOk result (λ r. IfErr r (λ a. (is_ok names.now ≡ false) × IsRefusal a.status (map table_of a.sheets.items))) }
+    ensures refused { IfOk result (λ r. IfErr r (λ a. IsRefusal a.status (map table_of a.sheets.items))) }
 {
     match judged {
         Judged::Counted(counting) => match names {
@@ -175,7 +177,7 @@ fn written_totals(
     names: Option<&[u8]>,
     style: Style,
 ) -> Result<Written, NoMemory>
-    ensures { IfOk result (λ w. IsTotalsBy (is_some names.entry) book.now returns.now w.answer.status (map table_of w.answer.sheets.items)) }
+    ensures { IfOk result (λ w. IsTotalsBy (are_refused (option_map (λ text. text.now) names.entry)) book.now returns.now w.answer.status (map table_of w.answer.sheets.items)) }
 {
     let inputs = digested_totals(alloc, book.as_ref(), returns, texts)?;
     let totals = totals_by(alloc, book, returns, texts, names, style.language)?;
@@ -191,7 +193,7 @@ pub fn totals(
     names: Option<&[u8]>,
     style: Style,
 ) -> Result<Written, NoMemory>
-    ensures { IfOk result (λ w. IsTotals (is_some names.entry) (option_map input_of book.entry) returns.now w.answer.status (map table_of w.answer.sheets.items)) }
+    ensures { IfOk result (λ w. IsTotals (are_refused (option_map (λ text. text.now) names.entry)) (option_map input_of book.entry) returns.now w.answer.status (map table_of w.answer.sheets.items)) }
 {
     let texts = texts_of(book, returns);
     let book = judged_book(alloc, book)?;

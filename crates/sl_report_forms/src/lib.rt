@@ -24,5 +24,5 @@ pub use heading::{DigestedInput, Heading, Told};
 pub use html_form::html_text;
 pub use json_form::json_text;
 pub use markdown_form::markdown_text;
-pub use sheet::{Form, Head, Look, Row, Sheet};
+pub use sheet::{Head, Look, Row, Sheet};
 pub use text_form::aligned_text;

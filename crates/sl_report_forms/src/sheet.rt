@@ -1,11 +1,10 @@
 //! Sheets: a key, a title, the heads of the columns, and rows.
 
-ghost use Rattle.std.specs.Prelude.{◌≡◌, ◌++◌, ◌∷◌, [], IfOk, OnOk, map, string_bytes};
+ghost use Rattle.std.specs.Prelude.{◌≡◌, ◌++◌, ◌∷◌, [], IfOk, OnOk, string_bytes};
 ghost use Rattle.sl_report_forms.specs.Cells.{a_change, a_flag, a_number, a_text, content_of, known, nothing};
 ghost use Rattle.sl_report_forms.specs.Tables.{blank_table, contents_of, table_of, with_columns, with_rows};
 
 use crate::cell::Cell;
-use sl_explain_texts::{Language, Message};
 use sl_ratio::NoMemory;
 use std::alloc::Global;
 
@@ -19,9 +18,6 @@ pub enum Look {
     /// At the right.
     Number,
 }
-
-/// A column of a kind of sheets: its key, its title, and its look.
-pub type Form = (&'static str, Message, Look);
 
 /// The head of a column: the key of its cells in CSV and in JSON, its title in text, and its look.
 #[derive(Drop)]
@@ -53,35 +49,17 @@ impl Head {
     }
 }
 
-// The heads of columns of these forms, with their titles in a language.
-fn heads_of(alloc: Global, language: Language, forms: &[Form]) -> Result<Vec<Head>, NoMemory>
-    ensures { IfOk result (λ heads. map (λ h. string_bytes h.key) heads.items ≡ map (λ f. f.0.now) forms.now) }
-{
-    let mut heads = Vec::new(alloc);
-    for (key, title, look) in forms {
-        let title = title.in_language(language);
-        heads.push(Head::new(alloc, key, title, *look)?)?;
-    }
-    Ok(heads)
-}
-
 impl Sheet {
-    /// A sheet without rows, whose columns have their titles in a language.
-    pub fn new(
-        alloc: Global,
-        language: Language,
-        key: &'static str,
-        title: String,
-        forms: &[Form],
-    ) -> Result<Sheet, NoMemory>
-        ensures { IfOk result (λ s. table_of s ≡ blank_table key.now (map (λ f. f.0.now) forms.now)) }
+    /// A sheet without columns and rows. Takes no memory.
+    pub fn new(alloc: Global, key: &'static str, title: String) -> Sheet
+        ensures { table_of result ≡ blank_table key.now [] }
     {
-        Ok(Sheet {
+        Sheet {
             key,
             title,
-            heads: heads_of(alloc, language, forms)?,
+            heads: Vec::new(alloc),
             rows: Vec::new(alloc),
-        })
+        }
     }
 
     /// Adds a column.

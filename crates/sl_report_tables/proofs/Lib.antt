@@ -6,3 +6,4 @@ pub mod Divisors
 pub mod GrowingTables
 pub mod VotesRows
 pub mod EarlierSteps
+pub mod PairsOfNames

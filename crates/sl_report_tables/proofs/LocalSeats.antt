@@ -1,11 +1,10 @@
 -- The seats of a list are those of its Land's lines alone.
-use Rattle.std.proofs.Common.{◌≡◌, ◌∙◌, ℕ, ◌+◌, Bool, false, ◌&&◌, ◌||◌, List, [], ◌∷◌, ◌++◌, Option, None, Some, ap, arith, cond, filter, inl, inr, map, refl, sym, take}
+use Rattle.std.proofs.Common.{◌≡◌, ◌∙◌, ℕ, ◌+◌, Bool, false, ◌&&◌, ◌||◌, List, [], ◌∷◌, Option, None, Some, ap, arith, cond, filter, inl, inr, map, refl, sym}
 use Rattle.std.specs.List.{list_any}
-use Rattle.std.specs.Prelude.{if◌then◌else◌, nat_eq, option_map, slice_get, sum_by, unwrap_or}
+use Rattle.std.specs.Prelude.{nat_eq, option_map, sum_by, unwrap_or}
 use Rattle.std.proofs.lemmas.Bool.{cases_Bool}
 use Rattle.std.proofs.lemmas.List.Sums.{sum_by-cons}
 use Rattle.std.proofs.lemmas.Simd.{map-map}
-use Rattle.sl_report_results.proofs.Steps.{filter_next}
 use Rattle.sl_report_forms.specs.Cells.{a_number}
 use Rattle.sl_report_results.specs.Sums.{capped}
 use Rattle.sl_report_tables.specs.Compare.{list_seats, number_or_fault, seats_at}
@@ -53,8 +52,3 @@ any_mapped p f (x ∷ xs) = ap (λ b. p (f x) || b) (any_mapped p f xs)
 pub any_seen : (p : ℕ × Judged → Bool) (land : ℕ) (xs : List Local) (books : List Judged) → map seen xs ≡ map (with_land land) books →
     list_any (λ x. p (seen x)) xs ≡ list_any (λ j. p (land, j)) books
 any_seen p land xs books same = sym (any_mapped p seen xs) ∙ ap (list_any p) same ∙ any_mapped p (with_land land) books
-
--- one line more, if it passes a test
-pub kept_next : {X : Type 0} (p : X → Bool) (xs : List X) (i : ℕ) (x : X) (before after : List X) → slice_get xs i ≡ Some x → before ≡ filter p (take i xs)
-    → after ≡ before ++ (if p x then x ∷ [] else []) → after ≡ filter p (take (i + 1) xs)
-kept_next p xs i x before after at so_far more = more ∙ ap (λ ys. ys ++ (if p x then x ∷ [] else [])) so_far ∙ sym (filter_next p xs i x at)

@@ -1,8 +1,9 @@
 -- Tables, one row more, and rows, one part more.
-use Rattle.std.proofs.Common.{◌≡◌, ◌∙◌, ◌≤◌, ℕ, ◌+◌, Bool, List, [], ◌∷◌, ◌++◌, Some, append_assoc, ap, arith, filter, length, map, refl, sym, take}
+use Rattle.std.proofs.Common.{◌≡◌, ◌∙◌, ◌≤◌, ℕ, ◌+◌, Bool, List, [], ◌∷◌, ◌++◌, None, Option, Some, append_assoc, ap, arith, filter, length, map, refl, sym, take}
 use Rattle.std.proofs.lemmas.List.Concat.{flat_map-append}
 use Rattle.std.proofs.lemmas.List.{append-nil, take_all, take_more}
 use Rattle.std.proofs.lemmas.Option.{get_or_from_slice_get, slice_get_within}
+use Rattle.std.proofs.lemmas.Simd.{map-map}
 use Rattle.std.proofs.lemmas.Slice.Zip.{length-zip}
 use Rattle.std.specs.List.{flat_map, range_with_len, zip}
 use Rattle.std.specs.Prelude.{if◌then◌else◌, min, slice_get}
@@ -30,6 +31,12 @@ pub rows_mapped : (f : ℕ → List Content) (n : ℕ) (t before after : Table) 
 rows_mapped f n t before after so_far more =
     rows_then t before after (map f (range_with_len 0 n)) (f n ∷ []) so_far more
     ∙ ap (with_rows t) (mapped_more f n (map f (range_with_len 0 n)) (map f (range_with_len 0 n) ++ f n ∷ []) (f n) refl refl refl)
+
+-- the row of all together, and then that of each of them
+pub rows_compared : (f : Option ℕ → List Content) (ns : List ℕ) (t first after : Table) → first ≡ with_rows t (f None ∷ []) →
+    after ≡ with_rows first (map (λ n. f (Some n)) ns) → after ≡ with_rows t (map f (None ∷ map Some ns))
+rows_compared f ns t first after all each =
+    rows_then t first after (f None ∷ []) (map (λ n. f (Some n)) ns) all each ∙ ap (λ rows. with_rows t (f None ∷ rows)) (sym (map-map f Some ns))
 
 -- the row of one number more, if it passes a test
 pub rows_filtered : (f : ℕ → List Content) (p : ℕ → Bool) (n : ℕ) (t before after : Table) → before ≡ with_rows t (map f (filter p (range_with_len 0 n))) →

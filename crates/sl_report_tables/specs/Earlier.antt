@@ -1,10 +1,10 @@
 -- An earlier seat table that is read beside a count: the text that `count` writes (docs/output.md, section 1; docs/report.md).
-use Rattle.std.specs.Prelude.{◌≡◌, ℕ, Bool, false, true, ◌&&◌, ◌||◌, List, [], ◌∷◌, None, Option, Some, codes, filter_map, is_some, length, map, nat_eq, nat_lt, if◌then◌else◌}
+use Rattle.std.specs.Prelude.{◌≡◌, ℕ, Bool, false, true, ◌&&◌, ◌||◌, List, [], ◌∷◌, None, Option, Some, codes, filter_map, is_some, length, map, nat_eq, nat_lt, not, if◌then◌else◌}
 use Rattle.std.specs.Global.{Vec}
 use Rattle.std.specs.List.{list_all, list_any, slice_split}
 use Rattle.std.specs.Str.Lines.{lines}
-use Rattle.std.specs.Str.{bytes_eq}
-use Rattle.sl_count_inputs.specs.declared.input.Bytes.TheVariants.{Whole}
+use Rattle.std.specs.Str.{bytes_eq, is_utf8}
+use Rattle.sl_count_inputs.specs.declared.input.Bytes.TheVariants.{TooLong, Whole}
 use Rattle.sl_count_inputs.specs.declared.input.Bytes.{Bytes}
 use Rattle.sl_report_results.specs.declared.earlier.EarlierParty.{EarlierParty}
 use Rattle.sl_returns.specs.Cells.{is_number, number_of}
@@ -51,3 +51,15 @@ abbrev pub IsEarlierIn : Option Bytes → Option (Vec EarlierParty) → Type 0
 IsEarlierIn None None = Unit {0}
 IsEarlierIn (Some (Whole text)) (Some found) = IsEarlier text.items found.items
 IsEarlierIn _ _ = ⊥
+
+-- ---- what is refused
+
+-- a text is no earlier seat table
+abbrev pub is_no_table : List ℕ → Bool
+is_no_table text = not (is_utf8 text && is_table text)
+
+-- an earlier table that was read is refused: one that is too long, and a text that is none
+abbrev pub is_refused_in : Option Bytes → Bool
+is_refused_in None = false
+is_refused_in (Some TooLong) = true
+is_refused_in (Some (Whole text)) = is_no_table text.items

@@ -8,6 +8,7 @@ pub mod Faults
 pub mod Totals
 pub mod Words
 pub mod Compare
+pub mod Names
 pub mod Earlier
 pub mod Press
 pub mod Reports

@@ -1,8 +1,9 @@
 //! The full names and the earlier seat table of an answer, or the answer that refuses one of them.
 
-ghost use Rattle.std.specs.Prelude.{◌≡◌, [], IfErr, IfOk, is_some, true};
+ghost use Rattle.std.specs.Prelude.{◌≡◌, [], IfErr, IfOk, is_err, option_map};
 ghost use Rattle.sl_count_inputs.specs.declared.status.Status.TheVariants.{Refused};
-ghost use Rattle.sl_report_tables.specs.Earlier.{IsEarlier, IsEarlierIn};
+ghost use Rattle.sl_report_tables.specs.Earlier.{IsEarlier, IsEarlierIn, is_no_table, is_refused_in};
+ghost use Rattle.sl_report_tables.specs.Names.{are_refused, are_refused_in};
 
 use crate::answer::Answer;
 use crate::earlier::earlier_parties;
@@ -20,7 +21,8 @@ pub const MAX_BEFORE_BYTES: usize = 4_194_304;
 
 /// The full names of a text, or the answer that refuses them. Where no text is given there are none.
 pub fn names_of(alloc: Global, names: Option<&[u8]>) -> Result<Result<FullNames, Answer>, NoMemory>
-    ensures { IfOk result (λ full. IfErr full (λ a. (is_some names.entry ≡ true) × (a.status ≡ Refused) × (a.sheets.items ≡ []))) }
+    ensures which { IfOk result (λ full. is_err full ≡ are_refused (option_map (λ text. text.now) names.entry)) }
+    ensures refused { IfOk result (λ full. IfErr full (λ a. (a.status ≡ Refused) × (a.sheets.items ≡ []))) }
 {
     let Some(bytes) = names else {
         return Ok(Ok(FullNames::none(alloc)));
@@ -36,7 +38,8 @@ pub fn names_of(alloc: Global, names: Option<&[u8]>) -> Result<Result<FullNames,
 
 /// The full names of a text that was read, as `names_of` has them.
 pub fn names_in(alloc: Global, read: &Option<Bytes>) -> Result<Result<FullNames, Answer>, NoMemory>
-    ensures { IfOk result (λ full. IfErr full (λ a. (is_some read.now ≡ true) × (a.status ≡ Refused) × (a.sheets.items ≡ []))) }
+    ensures which { IfOk result (λ full. is_err full ≡ are_refused_in read.now) }
+    ensures refused { IfOk result (λ full. IfErr full (λ a. (a.status ≡ Refused) × (a.sheets.items ≡ []))) }
 {
     match read {
         None => Ok(Ok(FullNames::none(alloc))),
@@ -50,6 +53,7 @@ fn earlier_of<'a>(
     alloc: Global,
     text: &'a [u8],
 ) -> Result<Result<Vec<EarlierParty<'a>>, Answer>, NoMemory>
+    ensures which { IfOk result (λ r. is_err r ≡ is_no_table text.now) }
     ensures told { IfOk result (λ r. IfOk r (λ found. IsEarlier text.now found.items)) }
     ensures refused { IfOk result (λ r. IfErr r (λ a. (a.status ≡ Refused) × (a.sheets.items ≡ []))) }
 {
@@ -67,8 +71,9 @@ pub fn earlier_in<'a>(
     alloc: Global,
     read: &'a Option<Bytes>,
 ) -> Result<Result<Option<Vec<EarlierParty<'a>>>, Answer>, NoMemory>
+    ensures which { IfOk result (λ r. is_err r ≡ is_refused_in read.now) }
     ensures told { IfOk result (λ r. IfOk r (λ found. IsEarlierIn read.now found)) }
-    ensures refused { IfOk result (λ r. IfErr r (λ a. (is_some read.now ≡ true) × (a.status ≡ Refused) × (a.sheets.items ≡ []))) }
+    ensures refused { IfOk result (λ r. IfErr r (λ a. (a.status ≡ Refused) × (a.sheets.items ≡ []))) }
 {
     match read {
         None => Ok(Ok(None)),

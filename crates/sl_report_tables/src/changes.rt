@@ -5,22 +5,22 @@ ghost use Rattle.sl_report_forms.specs.Tables.{contents_of, table_of, with_rows}
 ghost use Rattle.sl_report_tables.specs.Compare.{change_cell, change_or_fault, change_row, changes_table, compared, seats_in, seats_row, seats_table};
 ghost use Rattle.sl_report_tables.specs.Parts.{cells_of};
 
-use crate::compare::{COMPARE, Judged, compared, fault_part, name_part, push_heads, seats_in};
+use crate::compare::{COMPARE, Judged, fault_part, name_part, push_heads, seats_in};
 use crate::naming::Naming;
-use crate::rows::{Part, push_row, put_parts, titled};
-use crate::texts::{CHANGES_TITLE, EACH_TITLE, NO_HEAD};
+use crate::rows::{Form, Part, push_row, put_parts, titled};
+use crate::texts::{CHANGES_TITLE, ColumnHead, EACH_TITLE};
 use sl_ratio::NoMemory;
-use sl_report_forms::{Form, Look, Row, Sheet};
+use sl_report_forms::{Look, Row, Sheet};
 use sl_stages::Returns;
 use std::alloc::Global;
 
 // A row for each book and each party is for programs: for a person the books stand side by side.
 const EACH: [Form; 5] = [
-    ("book", NO_HEAD, Look::Hidden),
-    ("party", NO_HEAD, Look::Hidden),
-    ("party_name", NO_HEAD, Look::Hidden),
-    ("seats", NO_HEAD, Look::Hidden),
-    ("change", NO_HEAD, Look::Hidden),
+    ("book", ColumnHead::Blank, Look::Hidden),
+    ("party", ColumnHead::Blank, Look::Hidden),
+    ("party_name", ColumnHead::Blank, Look::Hidden),
+    ("seats", ColumnHead::Blank, Look::Hidden),
+    ("change", ColumnHead::Blank, Look::Hidden),
 ];
 
 // How many seats more or fewer a book gives a party than the first one does, or all parties where none is given; nothing where one of the two has no count.
@@ -92,7 +92,6 @@ fn push_change(
 }
 
 // Adds the rows of all together, and of each party.
-#[tactic(auto, using(crate::proofs::MoreRows::rows_next))]
 fn push_changes(
     alloc: Global,
     sheet: &mut Sheet,
@@ -102,9 +101,9 @@ fn push_changes(
 ) -> Result<(), NoMemory>
     ensures { OnOk result (table_of sheet.new ≡ with_rows (table_of sheet.old) (map (change_row naming.now.returns.now first.now others.now) (compared naming.now.returns.now))) }
 {
-    let all = compared(alloc, naming.returns)?;
-    for party in &all {
-        push_change(alloc, sheet, naming, first, others, *party)?;
+    push_change(alloc, sheet, naming, first, others, None)?;
+    for party in 0..naming.returns.parties() {
+        push_change(alloc, sheet, naming, first, others, Some(party))?;
     }
     Ok(())
 }
@@ -157,7 +156,6 @@ fn push_each(
 }
 
 // Adds the rows of a book.
-#[tactic(auto, using(crate::proofs::MoreRows::rows_next))]
 fn push_book(
     alloc: Global,
     sheet: &mut Sheet,
@@ -167,9 +165,9 @@ fn push_book(
 ) -> Result<(), NoMemory>
     ensures { OnOk result (table_of sheet.new ≡ with_rows (table_of sheet.old) (map (seats_row naming.now.returns.now first.now judged.now) (compared naming.now.returns.now))) }
 {
-    let all = compared(alloc, naming.returns)?;
-    for party in &all {
-        push_each(alloc, sheet, naming, first, judged, *party)?;
+    push_each(alloc, sheet, naming, first, judged, None)?;
+    for party in 0..naming.returns.parties() {
+        push_each(alloc, sheet, naming, first, judged, Some(party))?;
     }
     Ok(())
 }

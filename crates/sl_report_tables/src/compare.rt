@@ -10,14 +10,11 @@ use crate::changes::{changes_sheet, each_sheet};
 use crate::faults::kind_word;
 use crate::lists_compared::list_seats_sheet;
 use crate::naming::{Naming, law_name, stage_name};
-use crate::rows::{Part, push_row, put_parts, titled};
+use crate::rows::{Form, Part, add_sheet, push_row, put_parts, titled};
 use crate::stages::stage_number;
-use crate::texts::{
-    ALL, BEYOND_HEAD, BOOK_HEAD, COMPARED_TITLE, DIFFERS_FROM_HEAD, FAULT_HEAD, LAW_HEAD, NO_HEAD,
-    NOT_SEATED_HEAD, PARTY_HEAD, RULEBOOKS_TITLE, SEATS_HEAD,
-};
+use crate::texts::{ALL, COMPARED_TITLE, ColumnHead, RULEBOOKS_TITLE};
 use sl_ratio::NoMemory;
-use sl_report_forms::{Form, Head, Look, Row, Sheet};
+use sl_report_forms::{Head, Look, Row, Sheet};
 use sl_report_results::{Column, Counted, house_of, open_winners, seats_in_all, seats_of};
 use sl_stages::{Book, CheckedBook, LegalFault, Returns};
 use std::alloc::Global;
@@ -32,19 +29,19 @@ pub struct Judged {
 }
 
 const BOOKS: [Form; 7] = [
-    ("book", BOOK_HEAD, Look::Text(20)),
-    ("law", LAW_HEAD, Look::Text(40)),
-    ("seats", SEATS_HEAD, Look::Number),
-    ("beyond", BEYOND_HEAD, Look::Number),
-    ("open", NOT_SEATED_HEAD, Look::Number),
-    ("differs", DIFFERS_FROM_HEAD, Look::Text(12)),
-    ("fault", FAULT_HEAD, Look::Text(14)),
+    ("book", ColumnHead::Book, Look::Text(20)),
+    ("law", ColumnHead::Law, Look::Text(40)),
+    ("seats", ColumnHead::Seats, Look::Number),
+    ("beyond", ColumnHead::Beyond, Look::Number),
+    ("open", ColumnHead::NotSeated, Look::Number),
+    ("differs", ColumnHead::DiffersFrom, Look::Text(12)),
+    ("fault", ColumnHead::Fault, Look::Text(14)),
 ];
 
 /// Who is compared.
 pub(crate) const COMPARE: [Form; 2] = [
-    ("party", NO_HEAD, Look::Hidden),
-    ("party_name", PARTY_HEAD, Look::Text(15)),
+    ("party", ColumnHead::Blank, Look::Hidden),
+    ("party_name", ColumnHead::Party, Look::Text(15)),
 ];
 
 // The column of a stage of that name.
@@ -178,18 +175,6 @@ fn seats_part(judged: &Judged, returns: &Returns, party: Option<usize>) -> Part<
     }
 }
 
-/// Who is compared: all together, and then each party.
-pub(crate) fn compared(alloc: Global, returns: &Returns) -> Result<Vec<Option<usize>>, NoMemory>
-    ensures { IfOk result (λ all. all.items ≡ compared returns.now) }
-{
-    let mut all: Vec<Option<usize>> = Vec::new(alloc);
-    all.push(None)?;
-    for party in 0..returns.parties() {
-        all.push(Some(party))?;
-    }
-    Ok(all)
-}
-
 /// The names of a party, or the word for all.
 pub(crate) fn name_part(party: Option<usize>) -> Part<'static>
     ensures { cells_of result ≡ compared_name party }
@@ -234,7 +219,6 @@ fn push_compared(
 }
 
 // Adds the rows of all together, and of each party.
-#[tactic(auto, using(crate::proofs::MoreRows::rows_next))]
 fn push_rows(
     alloc: Global,
     sheet: &mut Sheet,
@@ -243,9 +227,9 @@ fn push_rows(
 ) -> Result<(), NoMemory>
     ensures { OnOk result (table_of sheet.new ≡ with_rows (table_of sheet.old) (map (compared_row naming.now.returns.now books.now) (compared naming.now.returns.now))) }
 {
-    let all = compared(alloc, naming.returns)?;
-    for party in &all {
-        push_compared(alloc, sheet, naming, books, *party)?;
+    push_compared(alloc, sheet, naming, books, None)?;
+    for party in 0..naming.returns.parties() {
+        push_compared(alloc, sheet, naming, books, Some(party))?;
     }
     Ok(())
 }
@@ -281,10 +265,10 @@ pub(crate) fn compare_sheets(
     ensures { IfOk result (λ sheets. AreComparison naming.now.returns.now books.now (map table_of sheets.items)) }
 {
     let mut sheets: Vec<Sheet> = Vec::new(alloc);
-    sheets.push(books_sheet(alloc, naming, books)?)?;
-    sheets.push(seats_sheet(alloc, naming, books)?)?;
-    sheets.push(changes_sheet(alloc, naming, books)?)?;
-    sheets.push(list_seats_sheet(alloc, naming, books)?)?;
-    sheets.push(each_sheet(alloc, naming, books)?)?;
+    add_sheet(&mut sheets, books_sheet(alloc, naming, books))?;
+    add_sheet(&mut sheets, seats_sheet(alloc, naming, books))?;
+    add_sheet(&mut sheets, changes_sheet(alloc, naming, books))?;
+    add_sheet(&mut sheets, list_seats_sheet(alloc, naming, books))?;
+    add_sheet(&mut sheets, each_sheet(alloc, naming, books))?;
     Ok(sheets)
 }

@@ -13,21 +13,21 @@ ghost use Rattle.sl_stages.specs.meaning.Counts.{HoldsStages};
 use crate::covering::covering_sheet;
 use crate::naming::{Naming, law_name};
 use crate::parties::{lists_sheet, open_sheet, parties_sheet, seat_parts, singles_sheet};
-use crate::rows::{Part, one_row_sheet};
+use crate::rows::{Form, Part, add_sheet, one_row_sheet};
 use crate::scopes::{entries_sheet, scopes_sheet};
-use crate::texts::{DIRECT_HEAD, HOUSE_HEAD, LAW_HEAD, LAW_TITLE, SEATS_HEAD, VACANT_HEAD};
+use crate::texts::{ColumnHead, LAW_TITLE};
 use sl_ratio::NoMemory;
-use sl_report_forms::{Form, Look, Sheet};
+use sl_report_forms::{Look, Sheet};
 use sl_report_results::{Counted, Scoped, Seats, Setting, seats_in_all, stage_scopes};
 use sl_stages::{Book, Table};
 use std::alloc::Global;
 
 const LAW: [Form; 5] = [
-    ("law", LAW_HEAD, Look::Text(60)),
-    ("house", HOUSE_HEAD, Look::Number),
-    ("seats", SEATS_HEAD, Look::Number),
-    ("direct", DIRECT_HEAD, Look::Number),
-    ("vacant", VACANT_HEAD, Look::Number),
+    ("law", ColumnHead::Law, Look::Text(60)),
+    ("house", ColumnHead::House, Look::Number),
+    ("seats", ColumnHead::Seats, Look::Number),
+    ("direct", ColumnHead::Direct, Look::Number),
+    ("vacant", ColumnHead::Vacant, Look::Number),
 ];
 
 // The seats in all, where a table is known.
@@ -87,9 +87,9 @@ fn push_scope_sheets(
 ) -> Result<(), NoMemory>
     ensures { OnOk result (map table_of sheets.new.items ≡ map table_of sheets.old.items ++ scope_tables scopes.now) }
 {
-    sheets.push(scopes_sheet(alloc, book, naming, scopes)?)?;
+    add_sheet(sheets, scopes_sheet(alloc, book, naming, scopes))?;
     for scoped in scopes {
-        sheets.push(entries_sheet(alloc, book, naming, scoped)?)?;
+        add_sheet(sheets, entries_sheet(alloc, book, naming, scoped))?;
     }
     Ok(())
 }
@@ -106,9 +106,9 @@ fn push_winner_sheets(
         × AreCovered setting.now.book.now.last.seating setting.now.book.now.eligible.items table.now setting.now.returns.now ranked
         × (map table_of sheets.new.items ≡ map table_of sheets.old.items ++ winner_tables setting.now.returns.now table.now ranked)) }
 {
-    sheets.push(covering_sheet(alloc, setting, naming, table)?)?;
-    sheets.push(singles_sheet(alloc, setting.returns, naming, table)?)?;
-    sheets.push(open_sheet(alloc, setting.returns, naming, table)?)?;
+    add_sheet(sheets, covering_sheet(alloc, setting, naming, table))?;
+    add_sheet(sheets, singles_sheet(alloc, setting.returns, naming, table))?;
+    add_sheet(sheets, open_sheet(alloc, setting.returns, naming, table))?;
     Ok(())
 }
 
@@ -124,7 +124,7 @@ fn push_counted(
     ensures { OnOk result (AddsCounted setting.now.book.now setting.now.returns.now counted.now (map table_of sheets.old.items) (map table_of sheets.new.items)) }
 {
     let table = &counted.table;
-    sheets.push(lists_sheet(alloc, setting.returns, naming, table)?)?;
+    add_sheet(sheets, lists_sheet(alloc, setting.returns, naming, table))?;
     let scopes = all_scopes(alloc, setting, counted)?;
     push_scope_sheets(alloc, sheets, setting.book, naming, scopes.as_slice())?;
     push_winner_sheets(alloc, sheets, setting, naming, table)?;
@@ -141,8 +141,8 @@ pub(crate) fn first_sheets(
     ensures { IfOk result (λ sheets. map table_of sheets.items ≡ first_tables setting.now.book.now setting.now.returns.now (option_map (λ t. t.now) table.entry)) }
 {
     let mut sheets: Vec<Sheet> = Vec::new(alloc);
-    sheets.push(law_sheet(alloc, setting, naming, table)?)?;
-    sheets.push(parties_sheet(alloc, setting, naming, table)?)?;
+    add_sheet(&mut sheets, law_sheet(alloc, setting, naming, table))?;
+    add_sheet(&mut sheets, parties_sheet(alloc, setting, naming, table))?;
     Ok(sheets)
 }
 

@@ -6,30 +6,31 @@ ghost use Rattle.sl_report_results.specs.declared.contests.Ranked.{Ranked};
 ghost use Rattle.sl_report_tables.specs.Parties.{AreCovered, covering_table, ranked_row};
 
 use crate::naming::Naming;
-use crate::rows::{Part, push_row, titled};
-use crate::texts::{
-    CONSTITUENCY_HEAD, COVERED_TITLE, FIRST_HEAD, LAND_HEAD, NO_HEAD, PARTY_HEAD, PERCENT_HEAD,
-    RANK_HEAD, SEATED_HEAD, VALID_HEAD,
-};
+use crate::rows::{Form, Part, push_row, titled};
+use crate::texts::{COVERED_TITLE, ColumnHead};
 use sl_ratio::NoMemory;
-use sl_report_forms::{Form, Look, Sheet};
+use sl_report_forms::{Look, Sheet};
 use sl_report_results::{Ranked, Setting, contested};
 use sl_stages::{Seating, Table};
 use std::alloc::Global;
 
 const COVERING: [Form; 12] = [
-    ("land", NO_HEAD, Look::Hidden),
-    ("land_name", LAND_HEAD, Look::Text(20)),
-    ("party", NO_HEAD, Look::Hidden),
-    ("party_name", PARTY_HEAD, Look::Text(14)),
-    ("constituency", NO_HEAD, Look::Hidden),
-    ("constituency_name", CONSTITUENCY_HEAD, Look::Text(22)),
-    ("first", FIRST_HEAD, Look::Number),
-    ("valid", VALID_HEAD, Look::Number),
-    ("percent", PERCENT_HEAD, Look::Number),
-    ("percent_exact", NO_HEAD, Look::Hidden),
-    ("rank", RANK_HEAD, Look::Number),
-    ("seated", SEATED_HEAD, Look::Text(6)),
+    ("land", ColumnHead::Blank, Look::Hidden),
+    ("land_name", ColumnHead::Land, Look::Text(20)),
+    ("party", ColumnHead::Blank, Look::Hidden),
+    ("party_name", ColumnHead::Party, Look::Text(14)),
+    ("constituency", ColumnHead::Blank, Look::Hidden),
+    (
+        "constituency_name",
+        ColumnHead::Constituency,
+        Look::Text(22),
+    ),
+    ("first", ColumnHead::First, Look::Number),
+    ("valid", ColumnHead::Valid, Look::Number),
+    ("percent", ColumnHead::Percent, Look::Number),
+    ("percent_exact", ColumnHead::Blank, Look::Hidden),
+    ("rank", ColumnHead::Rank, Look::Number),
+    ("seated", ColumnHead::Seated, Look::Text(6)),
 ];
 
 // Adds the row of a winner.

@@ -7,30 +7,29 @@ ghost use Rattle.sl_report_tables.specs.Faults.{AreFaultTables, IsExplanation, f
 ghost use Rattle.sl_report_tables.specs.Parts.{cells_of};
 
 use crate::naming::{Naming, stage_name, text_of};
-use crate::rows::{Part, one_row_sheet, titled};
+use crate::rows::{Form, Part, add_sheet, one_row_sheet, push_row, titled};
 use crate::texts::{
-    CODE_HEAD, EXPLANATION_TITLE, FAULT_TITLE, KIND_CAP, KIND_HEAD, KIND_LIMIT, KIND_MAJORITY,
-    KIND_NO_LIST, KIND_SHORT, KIND_TIE, NAMES_HEAD, NO_HEAD, SCOPE_HEAD, SEATS_HEAD, STAGE_HEAD,
-    WHAT_HAPPENED_AND_WHAT_TO_DO_HEAD,
+    ColumnHead, EXPLANATION_TITLE, FAULT_TITLE, KIND_CAP, KIND_LIMIT, KIND_MAJORITY, KIND_NO_LIST,
+    KIND_SHORT, KIND_TIE,
 };
 use sl_explain_faults::explain_legal;
 use sl_explain_texts::{Explanation, Message};
 use sl_ratio::NoMemory;
-use sl_report_forms::{Form, Look, Row, Sheet};
+use sl_report_forms::{Look, Sheet};
 use sl_stages::{Book, FaultKind, LegalFault};
 use std::alloc::Global;
 
 const FAULT: [Form; 7] = [
-    ("code", CODE_HEAD, Look::Text(4)),
-    ("stage", STAGE_HEAD, Look::Text(12)),
-    ("scope", NO_HEAD, Look::Hidden),
-    ("scope_name", SCOPE_HEAD, Look::Text(28)),
-    ("kind", KIND_HEAD, Look::Text(14)),
-    ("seats", SEATS_HEAD, Look::Number),
-    ("names", NAMES_HEAD, Look::Text(36)),
+    ("code", ColumnHead::Code, Look::Text(4)),
+    ("stage", ColumnHead::Stage, Look::Text(12)),
+    ("scope", ColumnHead::Blank, Look::Hidden),
+    ("scope_name", ColumnHead::Scope, Look::Text(28)),
+    ("kind", ColumnHead::Kind, Look::Text(14)),
+    ("seats", ColumnHead::Seats, Look::Number),
+    ("names", ColumnHead::Names, Look::Text(36)),
 ];
 
-const EXPLANATION: [Form; 1] = [("text", WHAT_HAPPENED_AND_WHAT_TO_DO_HEAD, Look::Text(240))];
+const EXPLANATION: [Form; 1] = [("text", ColumnHead::WhatHappenedAndWhatToDo, Look::Text(240))];
 
 /// The word of a kind of faults.
 pub fn kind_word(kind: &FaultKind) -> Message {
@@ -101,12 +100,15 @@ fn stages_of(alloc: Global, book: &Book) -> Result<Vec<&[u8]>, NoMemory> {
 }
 
 // Adds a line for a text.
-fn push_text(alloc: Global, sheet: &mut Sheet, text: &[u8]) -> Result<(), NoMemory>
+fn push_text(
+    alloc: Global,
+    sheet: &mut Sheet,
+    naming: &Naming<'_>,
+    text: &[u8],
+) -> Result<(), NoMemory>
     ensures { OnOk result (table_of sheet.new ≡ with_rows (table_of sheet.old) ((a_text ∷ []) ∷ [])) }
 {
-    let mut row = Row::new(alloc);
-    row.text(text_of(text))?;
-    sheet.push(row)
+    push_row(alloc, sheet, naming, &[Part::Text(text_of(text))])
 }
 
 // The sheet of an explanation, a line for each sentence.
@@ -124,9 +126,9 @@ fn explanation_sheet(
         EXPLANATION_TITLE,
         &EXPLANATION,
     )?;
-    push_text(alloc, &mut sheet, told.sentence())?;
+    push_text(alloc, &mut sheet, naming, told.sentence())?;
     for remedy in told.remedies() {
-        push_text(alloc, &mut sheet, remedy.text())?;
+        push_text(alloc, &mut sheet, naming, remedy.text())?;
     }
     Ok(sheet)
 }
@@ -149,7 +151,7 @@ pub(crate) fn fault_sheets(
         fault,
     )?;
     let mut sheets: Vec<Sheet> = Vec::new(alloc);
-    sheets.push(fault_sheet(alloc, book, naming, fault, &told)?)?;
-    sheets.push(explanation_sheet(alloc, naming, &told)?)?;
+    add_sheet(&mut sheets, fault_sheet(alloc, book, naming, fault, &told))?;
+    add_sheet(&mut sheets, explanation_sheet(alloc, naming, &told))?;
     Ok(sheets)
 }

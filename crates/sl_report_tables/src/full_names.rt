@@ -1,7 +1,14 @@
 //! Full names of Länder, parties and constituencies, by their short ones.
 
-use csv::{ByteRecord, ErrorKind, Reader, ReaderBuilder};
+ghost use Rattle.std.specs.Prelude.{◌≡◌, IfErr, IfOk, None, Some, is_some};
+ghost use Rattle.std.specs.Str.{is_utf8};
+ghost use Rattle.csv.specs.Records.{field_at, fields_of};
+ghost use Rattle.sl_report_tables.specs.Names.{is_pair, is_text, wrong_record};
+ghost use Rattle.sl_returns.specs.Returns.{records_in};
+
+use csv::ByteRecord;
 use sl_ratio::NoMemory;
+use sl_returns::{reader_of, stopped};
 use std::alloc::Global;
 use std::collections::HashMap;
 
@@ -11,30 +18,21 @@ pub struct FullNames {
     names: HashMap<String, String>,
 }
 
-// A cell of a record as text, if there is one.
-fn cell(record: &ByteRecord, place: usize) -> Option<&str> {
-    match record.get(place) {
-        Some(bytes) => std::str::from_utf8(bytes).ok(),
-        None => None,
-    }
+// A cell of a record as text, if there is one that is UTF-8.
+fn text_at(fields: &ByteRecord, place: usize) -> Option<&str>
+    ensures { is_some result ≡ is_text (field_at (fields_of fields.now) place) }
+{
+    std::str::from_utf8(fields.get(place)?).ok()
 }
 
 // The short name and the full one of a record that has just these.
-fn pair_of(record: &ByteRecord) -> Option<(&str, &str)> {
-    if record.len() != 2 {
+fn pair_of(fields: &ByteRecord) -> Option<(&str, &str)>
+    ensures { is_some result ≡ is_pair (fields_of fields.now) }
+{
+    if fields.len() != 2 {
         return None;
     }
-    match (cell(record, 0), cell(record, 1)) {
-        (Some(short), Some(full)) => Some((short, full)),
-        _ => None,
-    }
-}
-
-// What reading a record comes to.
-enum Step {
-    Added,
-    Refused,
-    End,
+    Some((text_at(fields, 0)?, text_at(fields, 1)?))
 }
 
 impl FullNames {
@@ -52,55 +50,46 @@ impl FullNames {
         Ok(())
     }
 
-    // Adds the pair of names of a record.
-    fn add(&mut self, alloc: Global, record: &ByteRecord) -> Result<Step, NoMemory> {
-        match pair_of(record) {
+    // Adds the pair of names of a record. Whether it is one.
+    fn add(&mut self, alloc: Global, fields: &ByteRecord) -> Result<bool, NoMemory>
+        ensures { IfOk result (λ is. is ≡ is_pair (fields_of fields.now)) }
+    {
+        match pair_of(fields) {
             Some((short, full)) => {
                 self.insert(alloc, short, full)?;
-                Ok(Step::Added)
+                Ok(true)
             }
-            None => Ok(Step::Refused),
+            None => Ok(false),
         }
     }
 
-    // Reads a record, and adds its pair of names.
-    fn add_next(
-        &mut self,
-        alloc: Global,
-        reader: &mut Reader<&[u8]>,
-        record: &mut ByteRecord,
-    ) -> Result<Step, NoMemory> {
-        match reader.read_byte_record(record) {
-            Ok(true) => self.add(alloc, record),
-            Ok(false) => Ok(Step::End),
-            Err(error) => match error.into_kind() {
-                ErrorKind::OutOfMemory => Err(NoMemory),
-                _ => Ok(Step::Refused),
-            },
-        }
-    }
-
-    // Adds the pairs of names of all records, and answers with the number of the first one that is none.
-    fn add_all(&mut self, alloc: Global, bytes: &[u8]) -> Result<Option<u64>, NoMemory> {
-        let mut reader = ReaderBuilder::new()
-            .has_headers(false)
-            .flexible(true)
-            .from_reader(alloc, bytes);
-        let mut record = ByteRecord::new(alloc);
+    // Adds the pairs of names of all records of a text, or answers with the number of the first one that is none.
+    fn add_all(&mut self, alloc: Global, bytes: &[u8]) -> Result<Option<u64>, NoMemory>
+        ensures { IfOk result (λ wrong. wrong ≡ wrong_record bytes.now) }
+    {
+        let mut reader = reader_of(alloc, bytes);
+        let mut fields = ByteRecord::new(alloc);
         // no text in memory has so many records
         for row in 1..u64::MAX {
-            match self.add_next(alloc, &mut reader, &mut record)? {
-                Step::Added => {}
-                Step::Refused => return Ok(Some(row)),
-                Step::End => break,
+            match reader.read_byte_record(&mut fields) {
+                Ok(true) => {
+                    if !self.add(alloc, &fields)? {
+                        return Ok(Some(row));
+                    }
+                }
+                Ok(false) => return Ok(None),
+                Err(error) => return Err(stopped(error)),
             }
         }
-        Ok(None)
+        Err(NoMemory)
     }
 
     /// The names of a text of comma-separated values: in each record a short name and a full one, which is UTF-8. `Err` has the number of the first
     /// record that is none, from 1.
-    pub fn read(alloc: Global, bytes: &[u8]) -> Result<Result<FullNames, u64>, NoMemory> {
+    pub fn read(alloc: Global, bytes: &[u8]) -> Result<Result<FullNames, u64>, NoMemory>
+        ensures good { IfOk result (λ read. IfOk read (λ _. wrong_record bytes.now ≡ None)) }
+        ensures wrong { IfOk result (λ read. IfErr read (λ row. wrong_record bytes.now ≡ Some row)) }
+    {
         let mut names = FullNames::none(alloc);
         match names.add_all(alloc, bytes)? {
             Some(row) => Ok(Err(row)),

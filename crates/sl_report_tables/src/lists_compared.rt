@@ -12,18 +12,18 @@ ghost use Rattle.sl_stages.specs.returns.Election.{lands_of, parties_of};
 use crate::compare::{Judged, fault_part, push_heads};
 use crate::local::{Local, lines_in};
 use crate::naming::Naming;
-use crate::rows::{Part, put_parts, titled};
-use crate::texts::{LAND_HEAD, LIST_SEATS_TITLE, NO_HEAD, PARTY_HEAD};
+use crate::rows::{Form, Part, put_parts, titled};
+use crate::texts::{ColumnHead, LIST_SEATS_TITLE};
 use sl_ratio::NoMemory;
-use sl_report_forms::{Form, Look, Row, Sheet};
+use sl_report_forms::{Look, Row, Sheet};
 use sl_stages::ListSeats;
 use std::alloc::Global;
 
 const LISTS: [Form; 4] = [
-    ("land", NO_HEAD, Look::Hidden),
-    ("land_name", LAND_HEAD, Look::Text(22)),
-    ("party", NO_HEAD, Look::Hidden),
-    ("party_name", PARTY_HEAD, Look::Text(15)),
+    ("land", ColumnHead::Blank, Look::Hidden),
+    ("land_name", ColumnHead::Land, Look::Text(22)),
+    ("party", ColumnHead::Blank, Look::Hidden),
+    ("party_name", ColumnHead::Party, Look::Text(15)),
 ];
 
 // The seats of a line, if it is that of the list.

@@ -1,6 +1,6 @@
 //! A rulebook beside the lines of its table in one Land.
 
-ghost use Rattle.std.specs.Prelude.{◌≡◌, ◌++◌, ◌∷◌, [], IfOk, OnOk, filter, if◌then◌else◌, nat_eq};
+ghost use Rattle.std.specs.Prelude.{◌≡◌, IfOk, filter, nat_eq};
 ghost use Rattle.sl_report_tables.specs.inner.Local.{lines_in};
 
 use crate::compare::Judged;
@@ -17,26 +17,12 @@ pub(crate) struct Local<'a> {
     pub(crate) ghost kept: { lines.items ≡ lines_in land judged.now.counted },
 }
 
-// Adds a line, if it is of the Land.
-fn push_line(lines: &mut Vec<ListSeats>, line: ListSeats, land: usize) -> Result<(), NoMemory>
-    ensures { OnOk result (lines.new.items ≡ lines.old.items ++ (if nat_eq line.land land then line ∷ [] else [])) }
-{
-    if line.land == land {
-        lines.push(line)?;
-    }
-    Ok(())
-}
-
 // Those of some lines that are of a Land.
-#[tactic(auto, using(crate::proofs::LocalSeats::kept_next))]
 fn lines_of(alloc: Global, lines: &[ListSeats], land: usize) -> Result<Vec<ListSeats>, NoMemory>
     ensures { IfOk result (λ found. found.items ≡ filter (λ l. nat_eq l.land land) lines.now) }
 {
-    let mut found: Vec<ListSeats> = Vec::new(alloc);
-    for line in lines {
-        push_line(&mut found, *line, land)?;
-    }
-    Ok(found)
+    let of_land = lines.iter().copied().filter(|line| line.land == land);
+    Ok(of_land.collect(alloc)?)
 }
 
 /// The lines of a Land by a book, if there is a count.

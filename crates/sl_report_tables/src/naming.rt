@@ -48,7 +48,8 @@ pub(crate) fn win_name(returns: &Returns, win: usize) -> &str {
     }
 }
 
-fn owned(alloc: Global, text: &str) -> Result<String, NoMemory> {
+/// A text, owned.
+pub(crate) fn owned(alloc: Global, text: &str) -> Result<String, NoMemory> {
     Ok(String::from_str(alloc, text)?)
 }
 

@@ -9,51 +9,51 @@ ghost use Rattle.sl_stages.specs.returns.Election.{parties_of};
 ghost use Rattle.sl_stages.specs.returns.Facts.{all_valid_votes};
 
 use crate::naming::Naming;
-use crate::rows::{Part, push_row, titled};
-use crate::texts::{
-    CONSTITUENCY_HEAD, COUNTED_HEAD, DIRECT_HEAD, LAND_HEAD, LISTS_TITLE, NO_HEAD, NO_PARTY,
-    OPEN_TITLE, PARTIES_TITLE, PARTY_HEAD, PERCENT_HEAD, SEATS_HEAD, SINGLES_TITLE,
-    TAKES_PART_BY_HEAD, VACANT_HEAD, VALID_HEAD,
-};
+use crate::rows::{Form, Part, push_row, titled};
+use crate::texts::{ColumnHead, LISTS_TITLE, NO_PARTY, OPEN_TITLE, PARTIES_TITLE, SINGLES_TITLE};
 use sl_explain_texts::Message;
 use sl_ratio::NoMemory;
-use sl_report_forms::{Form, Look, Sheet};
+use sl_report_forms::{Look, Sheet};
 use sl_report_results::{Seats, Setting, all_votes, seats_of};
 use sl_stages::{ListSeats, Placed, Returns, Table, Win};
 use std::alloc::Global;
 
 const PARTIES: [Form; 10] = [
-    ("party", NO_HEAD, Look::Hidden),
-    ("party_name", PARTY_HEAD, Look::Text(24)),
-    ("valid", VALID_HEAD, Look::Number),
-    ("percent", PERCENT_HEAD, Look::Number),
-    ("percent_exact", NO_HEAD, Look::Hidden),
-    ("counted", COUNTED_HEAD, Look::Number),
-    ("condition", TAKES_PART_BY_HEAD, Look::Text(14)),
-    ("seats", SEATS_HEAD, Look::Number),
-    ("direct", DIRECT_HEAD, Look::Number),
-    ("vacant", VACANT_HEAD, Look::Number),
+    ("party", ColumnHead::Blank, Look::Hidden),
+    ("party_name", ColumnHead::Party, Look::Text(24)),
+    ("valid", ColumnHead::Valid, Look::Number),
+    ("percent", ColumnHead::Percent, Look::Number),
+    ("percent_exact", ColumnHead::Blank, Look::Hidden),
+    ("counted", ColumnHead::Counted, Look::Number),
+    ("condition", ColumnHead::TakesPartBy, Look::Text(14)),
+    ("seats", ColumnHead::Seats, Look::Number),
+    ("direct", ColumnHead::Direct, Look::Number),
+    ("vacant", ColumnHead::Vacant, Look::Number),
 ];
 
 const LISTS: [Form; 9] = [
-    ("land", NO_HEAD, Look::Hidden),
-    ("land_name", LAND_HEAD, Look::Text(28)),
-    ("party", NO_HEAD, Look::Hidden),
-    ("party_name", PARTY_HEAD, Look::Text(28)),
-    ("valid", NO_HEAD, Look::Hidden),
-    ("counted", COUNTED_HEAD, Look::Number),
-    ("seats", SEATS_HEAD, Look::Number),
-    ("direct", DIRECT_HEAD, Look::Number),
-    ("vacant", VACANT_HEAD, Look::Number),
+    ("land", ColumnHead::Blank, Look::Hidden),
+    ("land_name", ColumnHead::Land, Look::Text(28)),
+    ("party", ColumnHead::Blank, Look::Hidden),
+    ("party_name", ColumnHead::Party, Look::Text(28)),
+    ("valid", ColumnHead::Blank, Look::Hidden),
+    ("counted", ColumnHead::Counted, Look::Number),
+    ("seats", ColumnHead::Seats, Look::Number),
+    ("direct", ColumnHead::Direct, Look::Number),
+    ("vacant", ColumnHead::Vacant, Look::Number),
 ];
 
 const WINNERS: [Form; 6] = [
-    ("constituency", NO_HEAD, Look::Hidden),
-    ("constituency_name", CONSTITUENCY_HEAD, Look::Text(40)),
-    ("land", NO_HEAD, Look::Hidden),
-    ("land_name", LAND_HEAD, Look::Text(26)),
-    ("party", NO_HEAD, Look::Hidden),
-    ("party_name", PARTY_HEAD, Look::Text(26)),
+    ("constituency", ColumnHead::Blank, Look::Hidden),
+    (
+        "constituency_name",
+        ColumnHead::Constituency,
+        Look::Text(40),
+    ),
+    ("land", ColumnHead::Blank, Look::Hidden),
+    ("land_name", ColumnHead::Land, Look::Text(26)),
+    ("party", ColumnHead::Blank, Look::Hidden),
+    ("party_name", ColumnHead::Party, Look::Text(26)),
 ];
 
 /// The parts of seats, where a table is known.
@@ -157,7 +157,6 @@ fn push_list(
 }
 
 /// The lists that have votes or seats.
-#[tactic(auto, using(crate::proofs::MoreRows::rows_kept))]
 pub(crate) fn lists_sheet(
     alloc: Global,
     returns: &Returns,

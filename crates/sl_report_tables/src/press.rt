@@ -18,15 +18,11 @@ ghost use Rattle.sl_stages.specs.returns.Facts.{all_valid_votes};
 
 use crate::counted::{all_scopes, law_sheet};
 use crate::naming::Naming;
-use crate::rows::{Part, push_row, titled};
+use crate::rows::{Form, Part, add_sheet, push_row, titled};
 use crate::scopes::{SCOPES, push_scope};
-use crate::texts::{
-    ALL, BEFORE_HEAD, CHANGE_HEAD, LACKS_VOTES_HEAD, LACKS_WINNERS_HEAD, LAST_SEATS_TITLE,
-    LEFT_OUT_TITLE, NAME_HEAD, PARTY_HEAD, PERCENT_HEAD, PRESS_TITLE, SEATED_DIRECT_HEAD,
-    SEATS_HEAD, VOTES_HEAD, WON_HEAD,
-};
+use crate::texts::{ALL, ColumnHead, LAST_SEATS_TITLE, LEFT_OUT_TITLE, PRESS_TITLE};
 use sl_ratio::NoMemory;
-use sl_report_forms::{Form, Look, Sheet};
+use sl_report_forms::{Look, Sheet};
 use sl_report_results::{
     Counted, EarlierParty, Pressed, Scoped, Setting, Standing, all_before, all_votes, by_seats,
     gone, lacking_votes, lacking_winners, left_out, seats_in_all,
@@ -35,24 +31,24 @@ use sl_stages::{Book, Cond, Scope, Table};
 use std::alloc::Global;
 
 const PRESS: [Form; 9] = [
-    ("party", PARTY_HEAD, Look::Text(12)),
-    ("party_name", NAME_HEAD, Look::Text(30)),
-    ("seats", SEATS_HEAD, Look::Number),
-    ("before", BEFORE_HEAD, Look::Number),
-    ("change", CHANGE_HEAD, Look::Number),
-    ("won", WON_HEAD, Look::Number),
-    ("direct", SEATED_DIRECT_HEAD, Look::Number),
-    ("valid", VOTES_HEAD, Look::Number),
-    ("percent", PERCENT_HEAD, Look::Number),
+    ("party", ColumnHead::Party, Look::Text(12)),
+    ("party_name", ColumnHead::Name, Look::Text(30)),
+    ("seats", ColumnHead::Seats, Look::Number),
+    ("before", ColumnHead::Before, Look::Number),
+    ("change", ColumnHead::Change, Look::Number),
+    ("won", ColumnHead::Won, Look::Number),
+    ("direct", ColumnHead::SeatedDirect, Look::Number),
+    ("valid", ColumnHead::Votes, Look::Number),
+    ("percent", ColumnHead::Percent, Look::Number),
 ];
 
 const LEFT_OUT: [Form; 6] = [
-    ("party", PARTY_HEAD, Look::Text(12)),
-    ("party_name", NAME_HEAD, Look::Text(30)),
-    ("valid", VOTES_HEAD, Look::Number),
-    ("percent", PERCENT_HEAD, Look::Number),
-    ("votes_short", LACKS_VOTES_HEAD, Look::Number),
-    ("winners_short", LACKS_WINNERS_HEAD, Look::Number),
+    ("party", ColumnHead::Party, Look::Text(12)),
+    ("party_name", ColumnHead::Name, Look::Text(30)),
+    ("valid", ColumnHead::Votes, Look::Number),
+    ("percent", ColumnHead::Percent, Look::Number),
+    ("votes_short", ColumnHead::LacksVotes, Look::Number),
+    ("winners_short", ColumnHead::LacksWinners, Look::Number),
 ];
 
 // The seats before, and by how many there are more or fewer, where these are known.
@@ -338,9 +334,15 @@ pub(crate) fn press_sheets(
     let table = &counted.table;
     let scopes = all_scopes(alloc, setting, counted)?;
     let mut sheets: Vec<Sheet> = Vec::new(alloc);
-    sheets.push(law_sheet(alloc, setting, naming, Some(table))?)?;
-    sheets.push(press_sheet(alloc, setting, naming, table, earlier)?)?;
-    sheets.push(whole_sheet(alloc, setting.book, naming, scopes.as_slice())?)?;
-    sheets.push(lacking_sheet(alloc, setting, naming)?)?;
+    add_sheet(&mut sheets, law_sheet(alloc, setting, naming, Some(table)))?;
+    add_sheet(
+        &mut sheets,
+        press_sheet(alloc, setting, naming, table, earlier),
+    )?;
+    add_sheet(
+        &mut sheets,
+        whole_sheet(alloc, setting.book, naming, scopes.as_slice()),
+    )?;
+    add_sheet(&mut sheets, lacking_sheet(alloc, setting, naming))?;
     Ok(sheets)
 }

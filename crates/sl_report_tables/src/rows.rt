@@ -1,20 +1,24 @@
 //! Rows by what they show, and sheets under a title.
 
-ghost use Rattle.std.specs.Prelude.{◌≡◌, ◌*◌, ◌++◌, ◌∷◌, [], IfOk, OnOk, None, Some, flat_map, if◌then◌else◌, map};
+ghost use Rattle.std.specs.Prelude.{◌≡◌, ◌*◌, ◌++◌, ◌∷◌, [], IfOk, Ok, OnOk, None, Some, flat_map, if◌then◌else◌, map};
 ghost use Rattle.sl_report_forms.specs.Cells.{a_flag, a_text, nothing};
-ghost use Rattle.sl_report_forms.specs.Tables.{blank_table, contents_of, table_of, with_rows};
+ghost use Rattle.sl_report_forms.specs.declared.sheet.Sheet.{Sheet};
+ghost use Rattle.sl_report_forms.specs.Tables.{blank_table, contents_of, table_of, with_columns, with_rows};
 ghost use Rattle.sl_report_tables.specs.Parts.{a_name, cells_of, condition_cell, fraction_cells, percent_cells, rounded_cell, sides_of, two_empty};
 
 use crate::lowest::lowest;
 use crate::naming::{Naming, land_name, party_name, win_name};
-use crate::texts::{NO, YES};
+use crate::texts::{ColumnHead, NO, YES};
 use crate::words::condition_text;
 use sl_explain_texts::{Language, Message};
 use sl_ratio::NoMemory;
-use sl_report_forms::{Form, Row, Sheet};
+use sl_report_forms::{Head, Look, Row, Sheet};
 use sl_report_results::Fraction;
 use sl_stages::{Cond, Item, Scope};
 use std::alloc::Global;
+
+/// A column of a kind of sheets: its key, what stands over it, and its look.
+pub(crate) type Form = (&'static str, ColumnHead, Look);
 
 /// What a row shows next. A name is two cells: the short one, and the one that a reader sees. So is a fraction: in decimals, and
 /// exact in lowest terms.
@@ -322,8 +326,38 @@ pub fn push_row(
     sheet.push(row)
 }
 
+// Adds columns of these forms, with what stands over them in a language.
+fn push_columns(
+    alloc: Global,
+    sheet: &mut Sheet,
+    language: Language,
+    forms: &[Form],
+) -> Result<(), NoMemory>
+    ensures { OnOk result (table_of sheet.new ≡ with_columns (table_of sheet.old) (map (λ f. f.0.now) forms.now)) }
+{
+    for (key, head, look) in forms {
+        sheet.push_head(Head::new(alloc, key, head.in_language(language), *look)?)?;
+    }
+    Ok(())
+}
+
+/// A sheet without rows, under a title that is given away.
+pub(crate) fn blank(
+    alloc: Global,
+    naming: &Naming<'_>,
+    key: &'static str,
+    title: String,
+    forms: &[Form],
+) -> Result<Sheet, NoMemory>
+    ensures { IfOk result (λ s. table_of s ≡ blank_table key.now (map (λ f. f.0.now) forms.now)) }
+{
+    let mut sheet = Sheet::new(alloc, key, title);
+    push_columns(alloc, &mut sheet, naming.language, forms)?;
+    Ok(sheet)
+}
+
 /// A sheet without rows, under a title.
-pub fn titled(
+pub(crate) fn titled(
     alloc: Global,
     naming: &Naming<'_>,
     key: &'static str,
@@ -333,11 +367,11 @@ pub fn titled(
     ensures { IfOk result (λ s. table_of s ≡ blank_table key.now (map (λ f. f.0.now) forms.now)) }
 {
     let title = String::from_str(alloc, title.in_language(naming.language))?;
-    Sheet::new(alloc, naming.language, key, title, forms)
+    blank(alloc, naming, key, title, forms)
 }
 
 /// A sheet of one row of these parts, under a title.
-pub fn one_row_sheet(
+pub(crate) fn one_row_sheet(
     alloc: Global,
     naming: &Naming<'_>,
     key: &'static str,
@@ -350,4 +384,15 @@ pub fn one_row_sheet(
     let mut sheet = titled(alloc, naming, key, title, forms)?;
     push_row(alloc, &mut sheet, naming, parts)?;
     Ok(sheet)
+}
+
+/// Adds a sheet, if there was memory for it.
+pub(crate) fn add_sheet(
+    sheets: &mut Vec<Sheet>,
+    sheet: Result<Sheet, NoMemory>,
+) -> Result<(), NoMemory>
+    ensures { OnOk result ((s : Sheet) × (sheet ≡ Ok s) × (sheets.new.items ≡ sheets.old.items ++ s ∷ [])) }
+{
+    sheets.push(sheet?)?;
+    Ok(())
 }

@@ -8,52 +8,48 @@ ghost use Rattle.sl_report_tables.specs.Scopes.{divisor_cell, entries_table, ent
 
 use crate::lowest::lowest_text;
 use crate::naming::{Naming, stage_name};
-use crate::rows::{Part, push_name, push_row, put_parts, titled};
-use crate::texts::{
-    DISTRIBUTIONS_TITLE, DIVISOR_HEAD, DRAWN_HEAD, ENTRY_HEAD, LAST_SEAT_HEAD, LOT_HEAD,
-    METHOD_HEAD, MINIMUM_HEAD, NEXT_CLAIM_HEAD, NO_HEAD, QUOTA_HEAD, QUOTIENT_HEAD, SCOPE_HEAD,
-    SEATS_HEAD, STAGE_HEAD, STAGE_TITLE, VOTES_HEAD, VOTES_MISSING_HEAD,
-};
+use crate::rows::{Form, Part, blank, push_name, push_row, put_parts, titled};
+use crate::texts::{ColumnHead, DISTRIBUTIONS_TITLE, STAGE_TITLE};
 use crate::words::method_word;
 use sl_ratio::NoMemory;
-use sl_report_forms::{Form, Look, Row, Sheet};
+use sl_report_forms::{Look, Row, Sheet};
 use sl_report_results::{Entry, Fraction, Scoped};
 use sl_stages::{Book, Scope};
 use std::alloc::Global;
 
 /// The columns of scopes.
 pub(crate) const SCOPES: [Form; 14] = [
-    ("stage", STAGE_HEAD, Look::Text(10)),
-    ("scope", NO_HEAD, Look::Hidden),
-    ("scope_name", SCOPE_HEAD, Look::Text(20)),
-    ("method", METHOD_HEAD, Look::Text(9)),
-    ("grows", NO_HEAD, Look::Hidden),
-    ("minima", NO_HEAD, Look::Hidden),
-    ("votes", NO_HEAD, Look::Hidden),
-    ("seats", SEATS_HEAD, Look::Number),
-    ("divisor", DIVISOR_HEAD, Look::Number),
-    ("quota", QUOTA_HEAD, Look::Number),
-    ("quota_exact", NO_HEAD, Look::Hidden),
-    ("last", LAST_SEAT_HEAD, Look::Text(14)),
-    ("next", NEXT_CLAIM_HEAD, Look::Text(14)),
-    ("lot", NO_HEAD, Look::Hidden),
+    ("stage", ColumnHead::Stage, Look::Text(10)),
+    ("scope", ColumnHead::Blank, Look::Hidden),
+    ("scope_name", ColumnHead::Scope, Look::Text(20)),
+    ("method", ColumnHead::Method, Look::Text(9)),
+    ("grows", ColumnHead::Blank, Look::Hidden),
+    ("minima", ColumnHead::Blank, Look::Hidden),
+    ("votes", ColumnHead::Blank, Look::Hidden),
+    ("seats", ColumnHead::Seats, Look::Number),
+    ("divisor", ColumnHead::Divisor, Look::Number),
+    ("quota", ColumnHead::Quota, Look::Number),
+    ("quota_exact", ColumnHead::Blank, Look::Hidden),
+    ("last", ColumnHead::LastSeat, Look::Text(14)),
+    ("next", ColumnHead::NextClaim, Look::Text(14)),
+    ("lot", ColumnHead::Blank, Look::Hidden),
 ];
 
 const ENTRIES: [Form; 14] = [
-    ("stage", NO_HEAD, Look::Hidden),
-    ("scope", NO_HEAD, Look::Hidden),
-    ("entry", NO_HEAD, Look::Hidden),
-    ("entry_name", ENTRY_HEAD, Look::Text(36)),
-    ("land", NO_HEAD, Look::Hidden),
-    ("party", NO_HEAD, Look::Hidden),
-    ("votes", VOTES_HEAD, Look::Number),
-    ("quotient", QUOTIENT_HEAD, Look::Number),
-    ("quotient_exact", NO_HEAD, Look::Hidden),
-    ("seats", SEATS_HEAD, Look::Number),
-    ("minimum", MINIMUM_HEAD, Look::Number),
-    ("missing", VOTES_MISSING_HEAD, Look::Number),
-    ("lot", LOT_HEAD, Look::Text(4)),
-    ("place", DRAWN_HEAD, Look::Number),
+    ("stage", ColumnHead::Blank, Look::Hidden),
+    ("scope", ColumnHead::Blank, Look::Hidden),
+    ("entry", ColumnHead::Blank, Look::Hidden),
+    ("entry_name", ColumnHead::Entry, Look::Text(36)),
+    ("land", ColumnHead::Blank, Look::Hidden),
+    ("party", ColumnHead::Blank, Look::Hidden),
+    ("votes", ColumnHead::Votes, Look::Number),
+    ("quotient", ColumnHead::Quotient, Look::Number),
+    ("quotient_exact", ColumnHead::Blank, Look::Hidden),
+    ("seats", ColumnHead::Seats, Look::Number),
+    ("minimum", ColumnHead::Minimum, Look::Number),
+    ("missing", ColumnHead::VotesMissing, Look::Number),
+    ("lot", ColumnHead::Lot, Look::Text(4)),
+    ("place", ColumnHead::Drawn, Look::Number),
 ];
 
 // The short names of the entries of these numbers.
@@ -228,7 +224,6 @@ fn entries_title(
 }
 
 /// The entries of a scope.
-#[tactic(auto, using(crate::proofs::MoreRows::rows_next))]
 pub(crate) fn entries_sheet(
     alloc: Global,
     book: &Book,
@@ -239,7 +234,7 @@ pub(crate) fn entries_sheet(
 {
     let stage = stage_name(book, scoped.stage);
     let title = entries_title(alloc, stage, naming, scoped.scope)?;
-    let mut sheet = Sheet::new(alloc, naming.language, "entries", title, &ENTRIES)?;
+    let mut sheet = blank(alloc, naming, "entries", title, &ENTRIES)?;
     for entry in &scoped.entries {
         push_entry(alloc, &mut sheet, stage, naming, scoped, *entry)?;
     }

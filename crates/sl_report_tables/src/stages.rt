@@ -7,32 +7,29 @@ ghost use Rattle.sl_report_tables.specs.Stages.{cell_row, cell_rows, cells_table
 ghost use Rattle.sl_stages.specs.meaning.Scopes.{entries_of};
 
 use crate::naming::{Naming, stage_name};
-use crate::rows::{Part, push_row, titled};
-use crate::texts::{
-    ALL, ENTRY_HEAD, NO_HEAD, NUMBER_HEAD, SHAPE_HEAD, STAGE_HEAD, STAGE_TITLE, STAGES_TITLE,
-    SUM_HEAD, UNIT_HEAD, VALUE_HEAD,
-};
+use crate::rows::{Form, Part, add_sheet, blank, push_row, titled};
+use crate::texts::{ALL, ColumnHead, STAGE_TITLE, STAGES_TITLE};
 use crate::words::{shape_word, unit_word};
 use sl_check::types_of;
 use sl_ratio::NoMemory;
-use sl_report_forms::{Form, Look, Sheet};
+use sl_report_forms::{Look, Sheet};
 use sl_report_results::{Column, Counted, Setting, entries_of, number_of, sum_of};
 use sl_stages::{Book, ColumnType, Item, Scope, Shape, Unit};
 use std::alloc::Global;
 
 const STAGES: [Form; 5] = [
-    ("number", NUMBER_HEAD, Look::Number),
-    ("stage", STAGE_HEAD, Look::Text(12)),
-    ("shape", SHAPE_HEAD, Look::Text(9)),
-    ("unit", UNIT_HEAD, Look::Text(8)),
-    ("sum", SUM_HEAD, Look::Number),
+    ("number", ColumnHead::Number, Look::Number),
+    ("stage", ColumnHead::Stage, Look::Text(12)),
+    ("shape", ColumnHead::Shape, Look::Text(9)),
+    ("unit", ColumnHead::Unit, Look::Text(8)),
+    ("sum", ColumnHead::Sum, Look::Number),
 ];
 
 const CELLS: [Form; 4] = [
-    ("stage", NO_HEAD, Look::Hidden),
-    ("entry", NO_HEAD, Look::Hidden),
-    ("entry_name", ENTRY_HEAD, Look::Text(60)),
-    ("value", VALUE_HEAD, Look::Number),
+    ("stage", ColumnHead::Blank, Look::Hidden),
+    ("entry", ColumnHead::Blank, Look::Hidden),
+    ("entry_name", ColumnHead::Entry, Look::Text(60)),
+    ("value", ColumnHead::Value, Look::Number),
 ];
 
 /// The number of the stage of that name, if there is one.
@@ -136,7 +133,6 @@ fn push_entry(
 }
 
 // Adds the rows of the entries of a column.
-#[tactic(auto, using(crate::proofs::MoreRows::rows_next))]
 fn push_entries(
     alloc: Global,
     sheet: &mut Sheet,
@@ -182,7 +178,7 @@ fn cells_sheet(
 {
     let word = STAGE_TITLE.in_language(naming.language);
     let title = format!(in alloc; "{word} {stage}")?;
-    let mut sheet = Sheet::new(alloc, naming.language, "cells", title, &CELLS)?;
+    let mut sheet = blank(alloc, naming, "cells", title, &CELLS)?;
     push_cells(alloc, &mut sheet, stage, naming, column)?;
     Ok(sheet)
 }
@@ -199,10 +195,10 @@ pub fn stage_sheets(
     let mut sheets: Vec<Sheet> = Vec::new(alloc);
     let book = setting.book;
     let columns = counted.columns.as_slice();
-    sheets.push(stages_sheet(alloc, book, naming, columns)?)?;
+    add_sheet(&mut sheets, stages_sheet(alloc, book, naming, columns))?;
     for (number, column) in columns.iter().enumerate() {
         let stage = stage_name(book, number);
-        sheets.push(cells_sheet(alloc, stage, naming, column)?)?;
+        add_sheet(&mut sheets, cells_sheet(alloc, stage, naming, column))?;
     }
     Ok(sheets)
 }

@@ -1,6 +1,6 @@
-//! All texts of this crate, in both languages: a new language is one more field of each.
+//! All texts of this crate, in both languages: a new language is one more field of each message, and one more function of the heads of columns.
 
-use sl_explain_texts::Message;
+use sl_explain_texts::{Language, Message};
 
 // ---- faults
 
@@ -226,293 +226,202 @@ pub(crate) const UNIT_VOTES: Message = Message {
 
 // ---- heads of columns
 
-/// That of a column which text omits.
-pub(crate) const NO_HEAD: Message = Message {
-    english: "",
-    german: "",
-};
+/// What stands over a column.
+#[derive(Clone, Copy)]
+pub(crate) enum ColumnHead {
+    /// Nothing: text omits the column.
+    Blank,
+    Before,
+    Beyond,
+    Book,
+    Change,
+    Code,
+    Constituency,
+    Counted,
+    DiffersFrom,
+    Direct,
+    Divisor,
+    Drawn,
+    Entry,
+    Fault,
+    First,
+    House,
+    Kind,
+    LacksVotes,
+    LacksWinners,
+    Land,
+    LastSeat,
+    Law,
+    Lists,
+    Lot,
+    Lands,
+    Method,
+    Minimum,
+    Names,
+    Name,
+    NextClaim,
+    NotSeated,
+    Number,
+    Parties,
+    Party,
+    People,
+    Percent,
+    Quota,
+    Quotient,
+    Rank,
+    Scope,
+    SeatedDirect,
+    Seated,
+    Seats,
+    Shape,
+    Stage,
+    Sum,
+    TakesPartBy,
+    Unit,
+    Vacant,
+    Valid,
+    Value,
+    Votes,
+    VotesMissing,
+    Warning,
+    WhatHappenedAndWhatToDo,
+    Winners,
+    WithoutParty,
+    Won,
+}
 
-pub(crate) const BEFORE_HEAD: Message = Message {
-    english: "before",
-    german: "zuvor",
-};
+impl ColumnHead {
+    /// It in a language.
+    pub(crate) fn in_language(self, language: Language) -> &'static str {
+        match language {
+            Language::English => self.english(),
+            Language::German => self.german(),
+        }
+    }
 
-pub(crate) const BEYOND_HEAD: Message = Message {
-    english: "beyond",
-    german: "darüber",
-};
+    fn english(self) -> &'static str {
+        match self {
+            ColumnHead::Blank => "",
+            ColumnHead::Before => "before",
+            ColumnHead::Beyond => "beyond",
+            ColumnHead::Book => "book",
+            ColumnHead::Change => "change",
+            ColumnHead::Code => "code",
+            ColumnHead::Constituency => "constituency",
+            ColumnHead::Counted => "counted",
+            ColumnHead::DiffersFrom => "differs from",
+            ColumnHead::Direct => "direct",
+            ColumnHead::Divisor => "divisor",
+            ColumnHead::Drawn => "drawn",
+            ColumnHead::Entry => "entry",
+            ColumnHead::Fault => "fault",
+            ColumnHead::First => "first",
+            ColumnHead::House => "house",
+            ColumnHead::Kind => "kind",
+            ColumnHead::LacksVotes => "lacks votes",
+            ColumnHead::LacksWinners => "lacks winners",
+            ColumnHead::Land => "Land",
+            ColumnHead::LastSeat => "last seat",
+            ColumnHead::Law => "law",
+            ColumnHead::Lists => "lists",
+            ColumnHead::Lot => "lot",
+            ColumnHead::Lands => "Länder",
+            ColumnHead::Method => "method",
+            ColumnHead::Minimum => "minimum",
+            ColumnHead::Names => "names",
+            ColumnHead::Name => "name",
+            ColumnHead::NextClaim => "next claim",
+            ColumnHead::NotSeated => "not seated",
+            ColumnHead::Number => "number",
+            ColumnHead::Parties => "parties",
+            ColumnHead::Party => "party",
+            ColumnHead::People => "people",
+            ColumnHead::Percent => "percent",
+            ColumnHead::Quota => "quota",
+            ColumnHead::Quotient => "quotient",
+            ColumnHead::Rank => "rank",
+            ColumnHead::Scope => "scope",
+            ColumnHead::SeatedDirect => "seated",
+            ColumnHead::Seated => "seated",
+            ColumnHead::Seats => "seats",
+            ColumnHead::Shape => "shape",
+            ColumnHead::Stage => "stage",
+            ColumnHead::Sum => "sum",
+            ColumnHead::TakesPartBy => "takes part by",
+            ColumnHead::Unit => "unit",
+            ColumnHead::Vacant => "vacant",
+            ColumnHead::Valid => "valid",
+            ColumnHead::Value => "value",
+            ColumnHead::Votes => "votes",
+            ColumnHead::VotesMissing => "votes missing",
+            ColumnHead::Warning => "warning",
+            ColumnHead::WhatHappenedAndWhatToDo => "what happened, and what to do",
+            ColumnHead::Winners => "winners",
+            ColumnHead::WithoutParty => "without party",
+            ColumnHead::Won => "won",
+        }
+    }
 
-pub(crate) const BOOK_HEAD: Message = Message {
-    english: "book",
-    german: "Regelwerk",
-};
-
-pub(crate) const CHANGE_HEAD: Message = Message {
-    english: "change",
-    german: "Änderung",
-};
-
-pub(crate) const CODE_HEAD: Message = Message {
-    english: "code",
-    german: "Code",
-};
-
-pub(crate) const CONSTITUENCY_HEAD: Message = Message {
-    english: "constituency",
-    german: "Wahlkreis",
-};
-
-pub(crate) const COUNTED_HEAD: Message = Message {
-    english: "counted",
-    german: "zählend",
-};
-
-pub(crate) const DIFFERS_FROM_HEAD: Message = Message {
-    english: "differs from",
-    german: "anders ab",
-};
-
-pub(crate) const DIRECT_HEAD: Message = Message {
-    english: "direct",
-    german: "direkt",
-};
-
-pub(crate) const DIVISOR_HEAD: Message = Message {
-    english: "divisor",
-    german: "Divisor",
-};
-
-pub(crate) const DRAWN_HEAD: Message = Message {
-    english: "drawn",
-    german: "gezogen",
-};
-
-pub(crate) const ENTRY_HEAD: Message = Message {
-    english: "entry",
-    german: "Eintrag",
-};
-
-pub(crate) const FAULT_HEAD: Message = Message {
-    english: "fault",
-    german: "Fehler",
-};
-
-pub(crate) const FIRST_HEAD: Message = Message {
-    english: "first",
-    german: "Erststimmen",
-};
-
-pub(crate) const HOUSE_HEAD: Message = Message {
-    english: "house",
-    german: "Hausgröße",
-};
-
-pub(crate) const KIND_HEAD: Message = Message {
-    english: "kind",
-    german: "Art",
-};
-
-pub(crate) const LACKS_VOTES_HEAD: Message = Message {
-    english: "lacks votes",
-    german: "Stimmen fehlen",
-};
-
-pub(crate) const LACKS_WINNERS_HEAD: Message = Message {
-    english: "lacks winners",
-    german: "Wahlkreise fehlen",
-};
-
-pub(crate) const LAND_HEAD: Message = Message {
-    english: "Land",
-    german: "Land",
-};
-
-pub(crate) const LAST_SEAT_HEAD: Message = Message {
-    english: "last seat",
-    german: "letzter Sitz",
-};
-
-pub(crate) const LAW_HEAD: Message = Message {
-    english: "law",
-    german: "Gesetz",
-};
-
-pub(crate) const LISTS_HEAD: Message = Message {
-    english: "lists",
-    german: "Listen",
-};
-
-pub(crate) const LOT_HEAD: Message = Message {
-    english: "lot",
-    german: "Los",
-};
-
-pub(crate) const LANDS_HEAD: Message = Message {
-    english: "Länder",
-    german: "Länder",
-};
-
-pub(crate) const METHOD_HEAD: Message = Message {
-    english: "method",
-    german: "Verfahren",
-};
-
-pub(crate) const MINIMUM_HEAD: Message = Message {
-    english: "minimum",
-    german: "Minimum",
-};
-
-pub(crate) const NAMES_HEAD: Message = Message {
-    english: "names",
-    german: "Namen",
-};
-
-pub(crate) const NAME_HEAD: Message = Message {
-    english: "name",
-    german: "Name",
-};
-
-pub(crate) const NEXT_CLAIM_HEAD: Message = Message {
-    english: "next claim",
-    german: "nächster Anspruch",
-};
-
-pub(crate) const NOT_SEATED_HEAD: Message = Message {
-    english: "not seated",
-    german: "ohne Sitz",
-};
-
-pub(crate) const NUMBER_HEAD: Message = Message {
-    english: "number",
-    german: "Nummer",
-};
-
-pub(crate) const PARTIES_HEAD: Message = Message {
-    english: "parties",
-    german: "Parteien",
-};
-
-pub(crate) const PARTY_HEAD: Message = Message {
-    english: "party",
-    german: "Partei",
-};
-
-pub(crate) const PEOPLE_HEAD: Message = Message {
-    english: "people",
-    german: "Einwohner",
-};
-
-pub(crate) const PERCENT_HEAD: Message = Message {
-    english: "percent",
-    german: "Prozent",
-};
-
-pub(crate) const QUOTA_HEAD: Message = Message {
-    english: "quota",
-    german: "Quote",
-};
-
-pub(crate) const QUOTIENT_HEAD: Message = Message {
-    english: "quotient",
-    german: "Quotient",
-};
-
-pub(crate) const RANK_HEAD: Message = Message {
-    english: "rank",
-    german: "Rang",
-};
-
-pub(crate) const SCOPE_HEAD: Message = Message {
-    english: "scope",
-    german: "Bereich",
-};
-
-pub(crate) const SEATED_DIRECT_HEAD: Message = Message {
-    english: "seated",
-    german: "mit Sitz",
-};
-
-pub(crate) const SEATED_HEAD: Message = Message {
-    english: "seated",
-    german: "Sitz",
-};
-
-pub(crate) const SEATS_HEAD: Message = Message {
-    english: "seats",
-    german: "Sitze",
-};
-
-pub(crate) const SHAPE_HEAD: Message = Message {
-    english: "shape",
-    german: "Form",
-};
-
-pub(crate) const STAGE_HEAD: Message = Message {
-    english: "stage",
-    german: "Stufe",
-};
-
-pub(crate) const SUM_HEAD: Message = Message {
-    english: "sum",
-    german: "Summe",
-};
-
-pub(crate) const TAKES_PART_BY_HEAD: Message = Message {
-    english: "takes part by",
-    german: "nimmt teil durch",
-};
-
-pub(crate) const UNIT_HEAD: Message = Message {
-    english: "unit",
-    german: "Einheit",
-};
-
-pub(crate) const VACANT_HEAD: Message = Message {
-    english: "vacant",
-    german: "unbesetzt",
-};
-
-pub(crate) const VALID_HEAD: Message = Message {
-    english: "valid",
-    german: "gültig",
-};
-
-pub(crate) const VALUE_HEAD: Message = Message {
-    english: "value",
-    german: "Wert",
-};
-
-pub(crate) const VOTES_HEAD: Message = Message {
-    english: "votes",
-    german: "Stimmen",
-};
-
-pub(crate) const VOTES_MISSING_HEAD: Message = Message {
-    english: "votes missing",
-    german: "Stimmen fehlen",
-};
-
-pub(crate) const WARNING_HEAD: Message = Message {
-    english: "warning",
-    german: "Warnung",
-};
-
-pub(crate) const WHAT_HAPPENED_AND_WHAT_TO_DO_HEAD: Message = Message {
-    english: "what happened, and what to do",
-    german: "was geschah, und was zu tun ist",
-};
-
-pub(crate) const WINNERS_HEAD: Message = Message {
-    english: "winners",
-    german: "Wahlkreise",
-};
-
-pub(crate) const WITHOUT_PARTY_HEAD: Message = Message {
-    english: "without party",
-    german: "ohne Partei",
-};
-
-pub(crate) const WON_HEAD: Message = Message {
-    english: "won",
-    german: "gewonnen",
-};
+    fn german(self) -> &'static str {
+        match self {
+            ColumnHead::Blank => "",
+            ColumnHead::Before => "zuvor",
+            ColumnHead::Beyond => "darüber",
+            ColumnHead::Book => "Regelwerk",
+            ColumnHead::Change => "Änderung",
+            ColumnHead::Code => "Code",
+            ColumnHead::Constituency => "Wahlkreis",
+            ColumnHead::Counted => "zählend",
+            ColumnHead::DiffersFrom => "anders ab",
+            ColumnHead::Direct => "direkt",
+            ColumnHead::Divisor => "Divisor",
+            ColumnHead::Drawn => "gezogen",
+            ColumnHead::Entry => "Eintrag",
+            ColumnHead::Fault => "Fehler",
+            ColumnHead::First => "Erststimmen",
+            ColumnHead::House => "Hausgröße",
+            ColumnHead::Kind => "Art",
+            ColumnHead::LacksVotes => "Stimmen fehlen",
+            ColumnHead::LacksWinners => "Wahlkreise fehlen",
+            ColumnHead::Land => "Land",
+            ColumnHead::LastSeat => "letzter Sitz",
+            ColumnHead::Law => "Gesetz",
+            ColumnHead::Lists => "Listen",
+            ColumnHead::Lot => "Los",
+            ColumnHead::Lands => "Länder",
+            ColumnHead::Method => "Verfahren",
+            ColumnHead::Minimum => "Minimum",
+            ColumnHead::Names => "Namen",
+            ColumnHead::Name => "Name",
+            ColumnHead::NextClaim => "nächster Anspruch",
+            ColumnHead::NotSeated => "ohne Sitz",
+            ColumnHead::Number => "Nummer",
+            ColumnHead::Parties => "Parteien",
+            ColumnHead::Party => "Partei",
+            ColumnHead::People => "Einwohner",
+            ColumnHead::Percent => "Prozent",
+            ColumnHead::Quota => "Quote",
+            ColumnHead::Quotient => "Quotient",
+            ColumnHead::Rank => "Rang",
+            ColumnHead::Scope => "Bereich",
+            ColumnHead::SeatedDirect => "mit Sitz",
+            ColumnHead::Seated => "Sitz",
+            ColumnHead::Seats => "Sitze",
+            ColumnHead::Shape => "Form",
+            ColumnHead::Stage => "Stufe",
+            ColumnHead::Sum => "Summe",
+            ColumnHead::TakesPartBy => "nimmt teil durch",
+            ColumnHead::Unit => "Einheit",
+            ColumnHead::Vacant => "unbesetzt",
+            ColumnHead::Valid => "gültig",
+            ColumnHead::Value => "Wert",
+            ColumnHead::Votes => "Stimmen",
+            ColumnHead::VotesMissing => "Stimmen fehlen",
+            ColumnHead::Warning => "Warnung",
+            ColumnHead::WhatHappenedAndWhatToDo => "was geschah, und was zu tun ist",
+            ColumnHead::Winners => "Wahlkreise",
+            ColumnHead::WithoutParty => "ohne Partei",
+            ColumnHead::Won => "gewonnen",
+        }
+    }
+}

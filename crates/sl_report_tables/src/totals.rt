@@ -9,15 +9,11 @@ ghost use Rattle.sl_stages.specs.returns.Election.{lands_of, parties_of};
 ghost use Rattle.sl_stages.specs.returns.Facts.{all_valid_votes};
 
 use crate::naming::Naming;
-use crate::rows::{Part, one_row_sheet, push_row, titled};
-use crate::texts::{
-    COUNTED_HEAD, LACKS_VOTES_HEAD, LACKS_WINNERS_HEAD, LAND_HEAD, LANDS_HEAD, LANDS_TITLE,
-    LISTS_HEAD, NO_HEAD, PARTIES_HEAD, PARTIES_TITLE, PARTY_HEAD, PEOPLE_HEAD, PERCENT_HEAD,
-    TAKES_PART_BY_HEAD, TOTALS_TITLE, VALID_HEAD, WINNERS_HEAD, WINNERS_TITLE, WITHOUT_PARTY_HEAD,
-};
+use crate::rows::{Form, Part, add_sheet, one_row_sheet, push_row, titled};
+use crate::texts::{ColumnHead, LANDS_TITLE, PARTIES_TITLE, TOTALS_TITLE, WINNERS_TITLE};
 use crate::warnings::warnings_sheet;
 use sl_ratio::NoMemory;
-use sl_report_forms::{Form, Look, Sheet};
+use sl_report_forms::{Look, Sheet};
 use sl_report_results::{
     all_lists, all_people, all_votes, independents_in, lacking_votes, lacking_winners, land_votes,
     lists_of, part_of, winners_at, winners_in, winners_of,
@@ -26,46 +22,46 @@ use sl_stages::{Book, Cond};
 use std::alloc::Global;
 
 const TOTALS: [Form; 8] = [
-    ("valid", VALID_HEAD, Look::Number),
-    ("counted", COUNTED_HEAD, Look::Number),
-    ("people", PEOPLE_HEAD, Look::Number),
-    ("lands", LANDS_HEAD, Look::Number),
-    ("parties", PARTIES_HEAD, Look::Number),
-    ("lists", LISTS_HEAD, Look::Number),
-    ("winners", WINNERS_HEAD, Look::Number),
-    ("independents", WITHOUT_PARTY_HEAD, Look::Number),
+    ("valid", ColumnHead::Valid, Look::Number),
+    ("counted", ColumnHead::Counted, Look::Number),
+    ("people", ColumnHead::People, Look::Number),
+    ("lands", ColumnHead::Lands, Look::Number),
+    ("parties", ColumnHead::Parties, Look::Number),
+    ("lists", ColumnHead::Lists, Look::Number),
+    ("winners", ColumnHead::Winners, Look::Number),
+    ("independents", ColumnHead::WithoutParty, Look::Number),
 ];
 
 const VOTES: [Form; 11] = [
-    ("party", NO_HEAD, Look::Hidden),
-    ("party_name", PARTY_HEAD, Look::Text(24)),
-    ("valid", VALID_HEAD, Look::Number),
-    ("percent", PERCENT_HEAD, Look::Number),
-    ("percent_exact", NO_HEAD, Look::Hidden),
-    ("counted", COUNTED_HEAD, Look::Number),
-    ("lists", NO_HEAD, Look::Hidden),
-    ("winners", WINNERS_HEAD, Look::Number),
-    ("condition", TAKES_PART_BY_HEAD, Look::Text(14)),
-    ("votes_short", LACKS_VOTES_HEAD, Look::Number),
-    ("winners_short", LACKS_WINNERS_HEAD, Look::Number),
+    ("party", ColumnHead::Blank, Look::Hidden),
+    ("party_name", ColumnHead::Party, Look::Text(24)),
+    ("valid", ColumnHead::Valid, Look::Number),
+    ("percent", ColumnHead::Percent, Look::Number),
+    ("percent_exact", ColumnHead::Blank, Look::Hidden),
+    ("counted", ColumnHead::Counted, Look::Number),
+    ("lists", ColumnHead::Blank, Look::Hidden),
+    ("winners", ColumnHead::Winners, Look::Number),
+    ("condition", ColumnHead::TakesPartBy, Look::Text(14)),
+    ("votes_short", ColumnHead::LacksVotes, Look::Number),
+    ("winners_short", ColumnHead::LacksWinners, Look::Number),
 ];
 
 const LANDS: [Form; 7] = [
-    ("land", NO_HEAD, Look::Hidden),
-    ("land_name", LAND_HEAD, Look::Text(30)),
-    ("people", PEOPLE_HEAD, Look::Number),
-    ("valid", VALID_HEAD, Look::Number),
-    ("counted", COUNTED_HEAD, Look::Number),
-    ("winners", WINNERS_HEAD, Look::Number),
-    ("independents", WITHOUT_PARTY_HEAD, Look::Number),
+    ("land", ColumnHead::Blank, Look::Hidden),
+    ("land_name", ColumnHead::Land, Look::Text(30)),
+    ("people", ColumnHead::People, Look::Number),
+    ("valid", ColumnHead::Valid, Look::Number),
+    ("counted", ColumnHead::Counted, Look::Number),
+    ("winners", ColumnHead::Winners, Look::Number),
+    ("independents", ColumnHead::WithoutParty, Look::Number),
 ];
 
 const WINNERS: [Form; 5] = [
-    ("land", NO_HEAD, Look::Hidden),
-    ("land_name", LAND_HEAD, Look::Text(34)),
-    ("party", NO_HEAD, Look::Hidden),
-    ("party_name", PARTY_HEAD, Look::Text(34)),
-    ("winners", WINNERS_HEAD, Look::Number),
+    ("land", ColumnHead::Blank, Look::Hidden),
+    ("land_name", ColumnHead::Land, Look::Text(34)),
+    ("party", ColumnHead::Blank, Look::Hidden),
+    ("party_name", ColumnHead::Party, Look::Text(34)),
+    ("winners", ColumnHead::Winners, Look::Number),
 ];
 
 // The sums of all returns.
@@ -225,10 +221,10 @@ pub(crate) fn total_sheets(
 {
     let conditions = conditions_of(book);
     let mut sheets: Vec<Sheet> = Vec::new(alloc);
-    sheets.push(totals_sheet(alloc, naming)?)?;
-    sheets.push(votes_sheet(alloc, conditions, naming)?)?;
-    sheets.push(lands_sheet(alloc, naming)?)?;
-    sheets.push(winners_sheet(alloc, naming)?)?;
-    sheets.push(warnings_sheet(alloc, book, naming)?)?;
+    add_sheet(&mut sheets, totals_sheet(alloc, naming))?;
+    add_sheet(&mut sheets, votes_sheet(alloc, conditions, naming))?;
+    add_sheet(&mut sheets, lands_sheet(alloc, naming))?;
+    add_sheet(&mut sheets, winners_sheet(alloc, naming))?;
+    add_sheet(&mut sheets, warnings_sheet(alloc, book, naming))?;
     Ok(sheets)
 }

@@ -6,18 +6,18 @@ ghost use Rattle.sl_report_tables.specs.Totals.{warning_row, warnings_table};
 ghost use Rattle.sl_report_warnings.specs.Warnings.{warnings_of};
 ghost use Rattle.sl_stages.specs.book.Books.{book_of};
 
-use crate::naming::Naming;
-use crate::rows::titled;
-use crate::texts::{NO_HEAD, WARNING_HEAD, WARNINGS_TITLE};
+use crate::naming::{Naming, text_of};
+use crate::rows::{Form, Part, push_row, titled};
+use crate::texts::{ColumnHead, WARNINGS_TITLE};
 use sl_ratio::NoMemory;
-use sl_report_forms::{Form, Look, Row, Sheet};
+use sl_report_forms::{Look, Sheet};
 use sl_report_warnings::{Warning, sentence, warnings_of};
 use sl_stages::Book;
 use std::alloc::Global;
 
 const WARNINGS: [Form; 2] = [
-    ("warning", NO_HEAD, Look::Hidden),
-    ("text", WARNING_HEAD, Look::Text(98)),
+    ("warning", ColumnHead::Blank, Look::Hidden),
+    ("text", ColumnHead::Warning, Look::Text(98)),
 ];
 
 // Adds the row of a warning: its kind, and its sentence.
@@ -30,10 +30,11 @@ fn push_warning(
     ensures { OnOk result (table_of sheet.new ≡ with_rows (table_of sheet.old) (warning_row warning ∷ [])) }
 {
     let text = sentence(alloc, naming.language, naming.returns, warning)?;
-    let mut row = Row::new(alloc);
-    row.text(warning.key())?;
-    row.text(std::str::from_utf8(text.as_slice()).unwrap_or(""))?;
-    sheet.push(row)
+    let parts = [
+        Part::Text(warning.key()),
+        Part::Text(text_of(text.as_slice())),
+    ];
+    push_row(alloc, sheet, naming, &parts)
 }
 
 // The sheet of these warnings.

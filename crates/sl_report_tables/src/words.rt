@@ -5,6 +5,7 @@ ghost use Rattle.sl_lex.specs.Keywords.{spelling};
 ghost use Rattle.sl_parse.specs.Words.{method_word};
 ghost use Rattle.sl_report_tables.specs.Words.{method_written};
 
+use crate::naming::owned;
 use crate::texts::{
     ALL, CONDITION_WINNERS, MINORITY, SHAPE_LAND, SHAPE_LIST, SHAPE_ONE, SHAPE_PARTY, SHARE,
     UNIT_SEATS, UNIT_VOTES,
@@ -66,7 +67,7 @@ pub(crate) fn condition_text(
             let word = CONDITION_WINNERS.in_language(language);
             Ok(format!(in alloc; "{least} {word}")?)
         }
-        Cond::Minority => Ok(String::from_str(alloc, MINORITY.in_language(language))?),
-        Cond::All => Ok(String::from_str(alloc, ALL.in_language(language))?),
+        Cond::Minority => owned(alloc, MINORITY.in_language(language)),
+        Cond::All => owned(alloc, ALL.in_language(language)),
     }
 }

@@ -1,5 +1,5 @@
 -- A builder that takes one record more, or leaves it out for its fault.
-use Rattle.std.proofs.Common.{◌≡◌, ◌≢◌, ◌+◌, List, [], ◌∷◌, ◌++◌, length, slice_get, Option, Some, None, is_some, false, refl, sym, ap, subst, ◌∙◌, arith, inl, inr}
+use Rattle.std.proofs.Common.{◌≡◌, ◌≢◌, ◌+◌, ℕ, List, [], ◌∷◌, ◌++◌, length, slice_get, Option, Some, None, is_some, false, refl, sym, ap, subst, ◌∙◌, arith, inl, inr}
 use Rattle.std.specs.Option.{option_map}
 use Rattle.std.proofs.lemmas.Bool.{true≢false}
 use Rattle.std.proofs.lemmas.List.{append-nil}
@@ -10,6 +10,7 @@ use Rattle.sl_returns.specs.declared.fault.RecordFault.{RecordFault}
 use Rattle.sl_returns.specs.declared.fault.ReturnsFault.{ReturnsFault}
 use Rattle.sl_returns.specs.declared.header.Version.{Version}
 use Rattle.sl_returns.specs.declared.sieve.Refusals.{Refusals}
+use Rattle.csv.specs.declared.reader.Reader.{Reader}
 use Rattle.sl_returns.specs.Cells.{Record}
 use Rattle.sl_returns.specs.Faults.{fault_at, of_record, row_behind}
 use Rattle.sl_returns.specs.Further.{Refusal, in_row, own_fault, refused_from, refused_of, refused_under, refusals_for, taken_from, taken_of}
@@ -19,10 +20,17 @@ use Rattle.sl_returns.specs.Returns.{behind_header}
 use Rattle.sl_returns.specs.Tests.{FailBy, Pass, record_tests}
 use Rattle.sl_returns.specs.inner.Building.{Building, StandsFor}
 use Rattle.sl_returns.specs.inner.Joining.{RefusesRecord, TakesRecord, with_record}
-use Rattle.sl_returns.specs.inner.Sifting.{HasEnded, HasSifted, IsHeaded, IsSifted, Keeps, Sifts, taken_among, taken_under}
+use Rattle.sl_returns.specs.inner.Sifting.{GoesOn, HasEnded, HasSifted, IsHeaded, IsSifted, Keeps, Sifts, taken_among, taken_under}
 use Rattle.sl_returns.proofs.Feeding.{after, row_after, rows_go}
+use Rattle.sl_returns.proofs.Reading.{HasGiven}
 use Rattle.sl_returns.proofs.Refusals.{all_taken, first_of, good_taken, refused_from-push, taken_from-push}
 use Rattle.sl_returns.proofs.Steps.{grows, no_records}
+
+-- the records that a reader has given are taken, or kept as refused
+pub record IsSifting {R : Type 0} (rem : R → Option (List ℕ)) (reader : Reader R) (builder : Building) (kept : Refusals) (text : List ℕ) : Type 0 where
+  pub rows : List Record
+  pub given : HasGiven rem reader rows text
+  pub goes : GoesOn builder kept rows
 
 -- ---- records after a header
 

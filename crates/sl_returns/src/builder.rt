@@ -159,14 +159,16 @@ impl ReturnsBuilder {
         ensures failed { IfSome self.fault (λ f. result ≡ Err f) }
     {
         let checked = self.check();
-        checked.and(Ok(self.returns))
+        checked.and(Ok(self.into_returns()))
     }
 
     // The returns of the records that were taken.
     pub(crate) fn into_returns(self) -> Returns
         ensures { result ≡ self.election }
     {
-        self.returns
+        let ReturnsBuilder { returns, index, .. } = self;
+        drop(index);
+        returns
     }
 
     // Whether the records give returns, or the fault with which the builder has failed; or that there is no header, or no Land.

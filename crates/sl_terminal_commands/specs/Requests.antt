@@ -1,6 +1,6 @@
 -- What each request writes to standard output, where the bytes of its files are known (docs/output.md, docs/report.md).
 use Rattle.std.specs.Option.{option_map}
-use Rattle.std.specs.Prelude.{Bool, IfSome, List, Option, is_some, map, ◌≡◌, ◌⊎◌, ◌||◌, ℕ}
+use Rattle.std.specs.Prelude.{Bool, IfSome, List, None, Option, map, ◌≡◌, ◌⊎◌, ℕ}
 use Rattle.sl_count_calls.specs.Counting.{IsOutput, ShowsSeats}
 use Rattle.sl_count_calls.specs.Showing.{IsStageOutput}
 use Rattle.sl_count_calls.specs.Steps.{ShowsSteps}
@@ -14,8 +14,9 @@ use Rattle.sl_count_inputs.specs.declared.status.Status.TheVariants as status
 use Rattle.sl_count_inputs.specs.declared.status.Status.{Status}
 use Rattle.sl_terminal_count.specs.Inputs.{named_input}
 use Rattle.sl_report_commands.specs.Statuses.{IsReportStatus}
+use Rattle.sl_terminal_commands.specs.Beside.{AreBeside}
 use Rattle.sl_terminal_commands.specs.Ends.{Exits}
-use Rattle.sl_terminal_commands.specs.Sums.{IsSummary, given_word}
+use Rattle.sl_terminal_commands.specs.Sums.{IsComparing, IsSumming, given_word}
 use Rattle.sl_terminal_words.specs.declared.command_line.Request.TheVariants as asked
 use Rattle.sl_terminal_words.specs.declared.command_line.Request.{Request}
 use Rattle.sl_terminal_words.specs.declared.command_line.Show.TheVariants.{Seats, Stage, Steps}
@@ -33,17 +34,20 @@ IsShown (Stage name) = IsStageOutput name.now
 abbrev pub IsListing : BookInput → Status → List ℕ → Type 0
 IsListing input ends text = (file : List ℕ) × IsCompilingOutput input ends file text
 
--- the status of a report of one count; is_named: a file of names or an earlier table is given
-abbrev pub IsReportOf : (List ℕ → Option (List ℕ)) → List ℕ → List ℕ → (is_named : Bool) → Status → Type 0
-IsReportOf bytes book returns is_named ends = ForKnown (named_input bytes book) (bytes returns) (λ input known. IsReportStatus is_named input known ends)
+-- the status of a report of one count, with the names of a file and beside the earlier table of another, if these are given
+abbrev pub IsReportOf : (List ℕ → Option (List ℕ)) → List ℕ → List ℕ → (names earlier : Option (List ℕ)) → Status → Type 0
+IsReportOf bytes book returns names earlier ends =
+    (is_refused : Bool) × AreBeside bytes names earlier is_refused
+    × ForKnown (named_input bytes book) (bytes returns) (λ input known. IsReportStatus is_refused input known ends)
 
 -- a command that reports, by its status alone: its tables are no part of this
-abbrev pub IsReportEnd : (List ℕ → Option (List ℕ)) → Report → (is_named : Bool) → Status → Type 0
-IsReportEnd bytes (what.Count book returns) is_named ends = IsReportOf bytes book.now returns.now is_named ends
-IsReportEnd bytes (what.Short book returns before) is_named ends = IsReportOf bytes book.now returns.now (is_some before || is_named) ends
-IsReportEnd bytes (what.Stages book returns) is_named ends = IsReportOf bytes book.now returns.now is_named ends
-IsReportEnd bytes (what.Totals returns book) is_named ends = IsSummary bytes returns.now (given_word (option_map (λ word. word.now) book)) ends
-IsReportEnd bytes (what.Compare returns books methods) is_named ends = IsSummary bytes returns.now (map (λ word. word.now) books.items) ends
+abbrev pub IsReportEnd : (List ℕ → Option (List ℕ)) → Report → (names : Option (List ℕ)) → Status → Type 0
+IsReportEnd bytes (what.Count book returns) names ends = IsReportOf bytes book.now returns.now names None ends
+IsReportEnd bytes (what.Short book returns before) names ends = IsReportOf bytes book.now returns.now names (option_map (λ path. path.now) before) ends
+IsReportEnd bytes (what.Stages book returns) names ends = IsReportOf bytes book.now returns.now names None ends
+IsReportEnd bytes (what.Totals returns book) names ends = IsSumming bytes returns.now (given_word (option_map (λ word. word.now) book)) names ends
+IsReportEnd bytes (what.Compare returns books methods) names ends =
+    IsComparing bytes returns.now (map (λ word. word.now) books.items) (map (λ word. word.now) methods.items) names ends
 
 abbrev pub IsOutputOf : (List ℕ → Option (List ℕ)) → Request → Status → List ℕ → Type 0
 IsOutputOf bytes (asked.Count show book returns) ends text = ForKnown (named_input bytes book.now) (bytes returns.now) (λ input known. IsShown show input known ends text)
@@ -52,7 +56,7 @@ IsOutputOf bytes (asked.Code book file is_forced) ends text = IfSome (named_inpu
 IsOutputOf bytes (asked.Run code returns) ends text = ForKnown (bytes code.now) (bytes returns.now) (λ file known. IsRunCode file known ends text)
 IsOutputOf bytes (asked.Law name) ends text = IsLawOutput name.now ends text
 IsOutputOf bytes (asked.Explain code) ends text = ends ≡ status.Done
-IsOutputOf bytes (asked.Report what form names) ends text = IsReportEnd bytes what (is_some names) ends
+IsOutputOf bytes (asked.Report what form names) ends text = IsReportEnd bytes what (option_map (λ path. path.now) names) ends
 
 -- what answers words that ask for no command: a help, or the version
 abbrev pub IsHelp : Status → List ℕ → Type 0

@@ -1,6 +1,6 @@
 -- What is said on standard error (docs/explanations.md, docs/faults.md; of warnings docs/returns.md, section 7).
 use Rattle.std.specs.Io.KnownBytes.{Keeps}
-use Rattle.std.specs.Prelude.{List, None, Option, Some, ℕ}
+use Rattle.std.specs.Prelude.{Bool, List, None, Option, Some, if◌then◌else◌, ℕ}
 use Rattle.sl_count_calls.specs.declared.judged.Judged.TheVariants as judged
 use Rattle.sl_count_calls.specs.declared.judged.Judged.{Judged}
 use Rattle.sl_stages.specs.declared.count.End.TheVariants as ends
@@ -10,6 +10,7 @@ use Rattle.sl_explain_texts.specs.declared.code.FaultCode.{FaultCode}
 use Rattle.sl_explain_texts.specs.declared.language.Language.{Language}
 use Rattle.sl_explain_calls.specs.Codes.{Subject, end_subject, judged_subject}
 use Rattle.sl_count_inputs.specs.Writing.{AppendsPrefix}
+use Rattle.sl_report_commands.specs.Statuses.{is_stopped}
 use Rattle.sl_stages.specs.book.Books.{book_of}
 use Rattle.sl_stages.specs.declared.checked.CheckedBook.{CheckedBook}
 use Rattle.sl_stages.specs.returns.Election.{Election}
@@ -61,3 +62,7 @@ judged_said (judged.BookRefused refused) = said_of (judged_subject (judged.BookR
 judged_said (judged.StageUnknown checked name) = said_of (judged_subject (judged.StageUnknown checked name))
 judged_said (judged.ReturnsRefused refused) = said_of (judged_subject (judged.ReturnsRefused refused))
 judged_said (judged.Counted counting) = end_said counting.book counting.returns counting.outcome.end
+
+-- of a report: the same, but nothing where what is read beside the inputs is refused and stops it
+abbrev pub report_said : (is_refused : Bool) → Judged → Said
+report_said is_refused j = if is_stopped is_refused j then nothing else judged_said j

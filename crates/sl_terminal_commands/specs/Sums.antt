@@ -1,5 +1,5 @@
 -- How a command that sums up returns, or that puts rulebooks side by side, ends, and of which fault is told (docs/report.md).
-use Rattle.std.specs.Prelude.{All, Any, IfSome, List, None, Option, Some, [], length, ◌<◌, ◌∷◌, ◌≡◌, ◌⊎◌, ℕ}
+use Rattle.std.specs.Prelude.{All, Any, Bool, IfSome, List, None, Option, Some, [], if◌then◌else◌, length, ◌<◌, ◌∷◌, ◌≡◌, ◌⊎◌, ℕ}
 use Rattle.sl_explain_calls.specs.Codes.{Subject, book_code, election_code, subject}
 use Rattle.sl_count_inputs.specs.Books.{IsBookVerdict}
 use Rattle.sl_count_inputs.specs.Judging.{refusal_of, returns_refusal_of}
@@ -18,6 +18,7 @@ use Rattle.sl_report_commands.specs.Methods.{IsVerdictBy}
 use Rattle.sl_terminal_count.specs.Inputs.{named_input}
 use Rattle.sl_stages.specs.book.Trees.{BookTree}
 use Rattle.sl_stages.specs.returns.Election.{Election}
+use Rattle.sl_terminal_commands.specs.Beside.{AreNames}
 use Rattle.sl_terminal_commands.specs.Said.{Said, fault, nothing, warned}
 use Rattle.sl_report_warnings.specs.Warnings.{warnings_of}
 
@@ -35,10 +36,21 @@ IsGoodBook bytes word = (tree : BookTree) × IsVerdictOn bytes word (Good tree)
 abbrev pub AreGood : Option (List ℕ) → Type 0
 AreGood known = (e : Election) × AreJudged known (Good e)
 
--- a table is written only where the returns and all of the rulebooks that words name are good; else one of them is refused, or the names are
-abbrev pub IsSummary : (List ℕ → Option (List ℕ)) → List ℕ → List (List ℕ) → Status → Type 0
-IsSummary bytes returns books ends =
-    ((ends ≡ status.Done) × AreGood (bytes returns) × All (IsGoodBook bytes) books) ⊎ (ends ≡ status.Refused)
+-- the status of what is shown with names
+abbrev pub named_status : (is_refused : Bool) → Status
+named_status is_refused = if is_refused then status.Refused else status.Done
+
+abbrev pub IsBadBook : (List ℕ → Option (List ℕ)) → List ℕ → Type 0
+IsBadBook bytes word = (why : BookRefusal) × IsVerdictOn bytes word (Refused why)
+
+abbrev pub AreBad : Option (List ℕ) → Type 0
+AreBad known = (why : ReturnsRefusal) × AreJudged known (Refused why)
+
+-- the sums of good returns, by a good rulebook if one is given, are shown where the names are good; a refusal is one of an input or of the names
+abbrev pub IsSumming : (List ℕ → Option (List ℕ)) → List ℕ → List (List ℕ) → (names : Option (List ℕ)) → Status → Type 0
+IsSumming bytes returns books names ends =
+    ((is_refused : Bool) × AreNames bytes names is_refused × (ends ≡ named_status is_refused) × AreGood (bytes returns) × All (IsGoodBook bytes) books)
+    ⊎ ((ends ≡ status.Refused) × (AreBad (bytes returns) ⊎ Any (IsBadBook bytes) books))
 
 -- a refusal with that subject
 abbrev pub IsRefusedBook : (List ℕ → Option (List ℕ)) → Subject → List ℕ → Type 0
@@ -47,10 +59,13 @@ IsRefusedBook bytes s word = (refused : RefusedBook) × IsVerdictOn bytes word (
 abbrev pub AreRefused : Option (List ℕ) → Subject → Type 0
 AreRefused known s = (refused : RefusedElection) × AreJudged known (Refused (returns_refusal_of refused)) × (s ≡ subject input.Returns (election_code refused))
 
--- what is told: nothing, or of the returns or of a rulebook that are refused
+-- the returns are refused, or a rulebook, and this is told
+abbrev pub IsOfRefused : (List ℕ → Option (List ℕ)) → List ℕ → List (List ℕ) → (Said → Type 0) → Type 0
+IsOfRefused bytes returns books Says = (s : Subject) × (AreRefused (bytes returns) s ⊎ Any (IsRefusedBook bytes s) books) × Says (fault s)
+
+-- or all of them are good, and nothing is told
 abbrev pub IsOfSums : (List ℕ → Option (List ℕ)) → List ℕ → List (List ℕ) → (Said → Type 0) → Type 0
-IsOfSums bytes returns books Says =
-    Says nothing ⊎ ((s : Subject) × (AreRefused (bytes returns) s ⊎ Any (IsRefusedBook bytes s) books) × Says (fault s))
+IsOfSums bytes returns books Says = IsOfRefused bytes returns books Says ⊎ (AreGood (bytes returns) × All (IsGoodBook bytes) books × Says nothing)
 
 -- a good rulebook fails a test by another method, with that subject
 abbrev pub IsRefusedBy : (List ℕ → Option (List ℕ)) → Subject → List ℕ → Type 0
@@ -58,11 +73,17 @@ IsRefusedBy bytes s word =
     (asked : Method) × ((refused : RefusedBook) × IfSome (named_input bytes word) (λ book. IsVerdictBy asked book (Refused (refusal_of refused)))
     × (s ≡ subject input.Book (book_code refused)))
 
--- of rulebooks side by side: the same, or warnings of good returns, or where methods are given of a rulebook that one of them refuses
+-- rulebooks side by side end as sums do; besides, a good rulebook may be refused by another method, and where none is given one of the library
+abbrev pub IsComparing : (List ℕ → Option (List ℕ)) → List ℕ → (books methods : List (List ℕ)) → (names : Option (List ℕ)) → Status → Type 0
+IsComparing bytes returns books methods names ends =
+    IsSumming bytes returns books names ends
+    ⊎ ((ends ≡ status.Refused) × (((0 < length methods) × (s : Subject) × Any (IsRefusedBy bytes s) books) ⊎ (books ≡ [])))
+
+-- of rulebooks side by side: a refusal; where all are good, nothing or warnings of the returns; where methods are given, a rulebook that one of them refuses
 abbrev pub IsOfComparison : (List ℕ → Option (List ℕ)) → List ℕ → (books methods : List (List ℕ)) → (Said → Type 0) → Type 0
 IsOfComparison bytes returns books methods Says =
-    IsOfSums bytes returns books Says
-    ⊎ (((e : Election) × AreJudged (bytes returns) (Good e) × Says (warned (warnings_of None e)))
+    IsOfRefused bytes returns books Says
+    ⊎ (((e : Election) × AreJudged (bytes returns) (Good e) × All (IsGoodBook bytes) books × (Says nothing ⊎ Says (warned (warnings_of None e))))
     ⊎ ((0 < length methods) × (s : Subject) × Any (IsRefusedBy bytes s) books × Says (fault s)))
 
 -- the word of a rulebook that is given, if one is

@@ -1,6 +1,6 @@
 -- What is told of each request on standard error: the fault that it met, or warnings of what it counted.
 use Rattle.std.specs.Option.{option_map}
-use Rattle.std.specs.Prelude.{Bool, IfSome, List, None, Option, Some, false, is_some, map, true, ◌≡◌, ◌⊎◌, ◌||◌, ℕ}
+use Rattle.std.specs.Prelude.{Bool, IfSome, List, None, Option, Some, false, map, true, ℕ}
 use Rattle.sl_count_calls.specs.Judged.{IsJudged}
 use Rattle.sl_count_calls.specs.declared.judged.Judged.{Judged}
 use Rattle.sl_stages.specs.declared.count.Records.TheVariants as records
@@ -17,7 +17,8 @@ use Rattle.sl_count_inputs.specs.declared.status.Input.TheVariants as input
 use Rattle.sl_count_inputs.specs.declared.verdict.Verdict.{Verdict}
 use Rattle.sl_terminal_count.specs.Inputs.{named_input}
 use Rattle.sl_stages.specs.declared.checked.CheckedBook.{CheckedBook}
-use Rattle.sl_terminal_commands.specs.Said.{Said, fault, judged_said, nothing, said_of}
+use Rattle.sl_terminal_commands.specs.Beside.{AreBeside}
+use Rattle.sl_terminal_commands.specs.Said.{Said, fault, judged_said, nothing, report_said, said_of}
 use Rattle.sl_terminal_commands.specs.Sums.{IsOfComparison, IsOfSums, given_word}
 use Rattle.sl_terminal_words.specs.declared.command_line.Request.TheVariants as asked
 use Rattle.sl_terminal_words.specs.declared.command_line.Request.{Request}
@@ -48,16 +49,18 @@ abbrev pub IsOfRun : (List ℕ → Option (List ℕ)) → List ℕ → List ℕ 
 IsOfRun bytes code returns Says =
     (judged : JudgedRun) × ForKnown (bytes code) (bytes returns) (λ file known. IsJudgedRun file known judged) × Says (said_of (run_subject judged))
 
--- of a report of one count: as of that count, or where names or an earlier table are refused nothing
-abbrev pub IsOfReport : (List ℕ → Option (List ℕ)) → List ℕ → List ℕ → (is_named : Bool) → (Said → Type 0) → Type 0
-IsOfReport bytes book returns is_named Says = IsOfCount bytes records.Kept None book returns Says ⊎ ((is_named ≡ true) × Says nothing)
+-- of a report of one count: as of that count, or where the names of a count or an earlier table are refused nothing
+abbrev pub IsOfReport : (List ℕ → Option (List ℕ)) → List ℕ → List ℕ → (names earlier : Option (List ℕ)) → (Said → Type 0) → Type 0
+IsOfReport bytes book returns names earlier Says =
+    (is_refused : Bool) × (judged : Judged) × AreBeside bytes names earlier is_refused
+    × ForKnown (named_input bytes book) (bytes returns) (λ input known. IsJudged records.Kept None input known judged) × Says (report_said is_refused judged)
 
-abbrev pub IsOfWhat : (List ℕ → Option (List ℕ)) → Report → (is_named : Bool) → (Said → Type 0) → Type 0
-IsOfWhat bytes (what.Count book returns) is_named Says = IsOfReport bytes book.now returns.now is_named Says
-IsOfWhat bytes (what.Short book returns before) is_named Says = IsOfReport bytes book.now returns.now (is_some before || is_named) Says
-IsOfWhat bytes (what.Stages book returns) is_named Says = IsOfReport bytes book.now returns.now is_named Says
-IsOfWhat bytes (what.Totals returns book) is_named Says = IsOfSums bytes returns.now (given_word (option_map (λ word. word.now) book)) Says
-IsOfWhat bytes (what.Compare returns books methods) is_named Says =
+abbrev pub IsOfWhat : (List ℕ → Option (List ℕ)) → Report → (names : Option (List ℕ)) → (Said → Type 0) → Type 0
+IsOfWhat bytes (what.Count book returns) names Says = IsOfReport bytes book.now returns.now names None Says
+IsOfWhat bytes (what.Short book returns before) names Says = IsOfReport bytes book.now returns.now names (option_map (λ path. path.now) before) Says
+IsOfWhat bytes (what.Stages book returns) names Says = IsOfReport bytes book.now returns.now names None Says
+IsOfWhat bytes (what.Totals returns book) names Says = IsOfSums bytes returns.now (given_word (option_map (λ word. word.now) book)) Says
+IsOfWhat bytes (what.Compare returns books methods) names Says =
     IsOfComparison bytes returns.now (map (λ word. word.now) books.items) (map (λ word. word.now) methods.items) Says
 
 -- of a request: of the fault that it met
@@ -68,7 +71,7 @@ IsOfFault bytes (asked.Code book file is_forced) Says = IsOfBook bytes book.now 
 IsOfFault bytes (asked.Run code returns) Says = IsOfRun bytes code.now returns.now Says
 IsOfFault bytes (asked.Law name) Says = Says (fault (subject input.Book (Some B01)))
 IsOfFault bytes (asked.Explain code) Says = Says nothing
-IsOfFault bytes (asked.Report what form names) Says = IsOfWhat bytes what (is_some names) Says
+IsOfFault bytes (asked.Report what form names) Says = IsOfWhat bytes what (option_map (λ path. path.now) names) Says
 
 -- requests that warn of what they count
 abbrev pub warns_of : Report → Bool

@@ -1,19 +1,20 @@
 //! The commands that report, over files: each input is read and judged once, and each rulebook is run once.
 
-ghost use Rattle.std.specs.Prelude.{◌≡◌, ◌<◌, ◌^◌, ◌⊎◌, ◌||◌, Err, IfErr, IfOk, None, false, is_some, true};
+ghost use Rattle.std.specs.Prelude.{◌≡◌, ◌<◌, ◌^◌, ◌⊎◌, ◌||◌, Bool, Err, IfErr, IfOk, None, false, is_err, option_map, true};
 ghost use Rattle.sl_count_calls.specs.Fitting.{FitsJudged};
 ghost use Rattle.sl_count_calls.specs.Judged.{IsJudged};
 ghost use Rattle.sl_stages.specs.declared.count.Records.TheVariants.{Kept};
 ghost use Rattle.sl_count_inputs.specs.Reading.{ForKnown};
 ghost use Rattle.sl_count_inputs.specs.declared.status.Status.TheVariants as status;
 ghost use Rattle.sl_terminal_count.specs.Inputs.{named_input};
-ghost use Rattle.sl_report_commands.specs.Statuses.{judged_status};
+ghost use Rattle.sl_report_commands.specs.Statuses.{is_stopped, judged_status};
+ghost use Rattle.sl_terminal_commands.specs.Beside.{AreNames};
 ghost use Rattle.sl_terminal_commands.specs.Digested.{word_bytes};
 ghost use Rattle.sl_terminal_commands.specs.Ends.{Ends, IsEarly};
-ghost use Rattle.sl_terminal_commands.specs.Requests.{IsReportEnd, IsReportOf};
+ghost use Rattle.sl_terminal_commands.specs.Requests.{IsReportEnd};
 ghost use Rattle.sl_terminal_commands.specs.Said.{OnlyWarns, Says, judged_said};
-ghost use Rattle.sl_terminal_commands.specs.Tellings.{IsOfReport, IsOfWhat, warns_of};
-ghost use Rattle.sl_terminal_commands.specs.inner.Reports.{IsShownBy, SaysBy};
+ghost use Rattle.sl_terminal_commands.specs.Tellings.{IsOfWhat, warns_of};
+ghost use Rattle.sl_terminal_commands.specs.inner.Reports.{AreBesideIn, IsOfReportIn, IsReadFrom, IsReportIn, IsShownBy, SaysBy};
 
 use crate::failure::Failure;
 use crate::terminal::Terminal;
@@ -67,7 +68,8 @@ fn first_refusal<'a>(
     names: Result<FullNames, Answer>,
     earlier: Result<Option<Vec<EarlierParty<'a>>>, Answer>,
 ) -> (Result<FullNames, Answer>, Option<Vec<EarlierParty<'a>>>)
-    ensures { IfErr result.0 (λ a. (names ≡ Err a) ⊎ (earlier.entry ≡ Err a)) }
+    ensures which { is_err result.0 ≡ (is_err names || is_err earlier.entry) }
+    ensures refused { IfErr result.0 (λ a. (names ≡ Err a) ⊎ (earlier.entry ≡ Err a)) }
 {
     match names {
         Err(refusal) => (Err(refusal), None),
@@ -87,7 +89,7 @@ impl<O: Outside, W: Sink, E: Sink> Terminal<O, W, E> {
         limit: usize,
     ) -> Result<Option<Bytes>, Failure<'a, O::Reason>>
         requires { limit < 2 ^ 32 }
-        ensures read { IfOk result (λ read. is_some read ≡ is_some path.entry) }
+        ensures read { IfOk result (λ read. IsReadFrom (O.bytes self.now.outside) (option_map (λ path. path.now) path.entry) limit read) }
         ensures early { IfErr result IsEarly }
     {
         let Some(path) = path else {
@@ -102,7 +104,8 @@ impl<O: Outside, W: Sink, E: Sink> Terminal<O, W, E> {
         &self,
         path: Option<&'a str>,
     ) -> Result<Result<FullNames, Answer>, Failure<'a, O::Reason>>
-        ensures refused { IfOk result (λ full. IfErr full (λ a. (is_some path.entry ≡ true) × (a.status ≡ status.Refused))) }
+        ensures names { IfOk result (λ full. AreNames (O.bytes self.now.outside) (option_map (λ path. path.now) path.entry) (is_err full)) }
+        ensures refused { IfOk result (λ full. IfErr full (λ a. a.status ≡ status.Refused)) }
         ensures early { IfErr result IsEarly }
     {
         let read = self.read_beside(path, Input::Names, MAX_NAMES_BYTES)?;
@@ -133,8 +136,9 @@ impl<O: Outside, W: Sink, E: Sink> Terminal<O, W, E> {
         writing: Writing<'a>,
     ) -> Result<Result<Answer, Answer>, Failure<'a, O::Reason>>
         requires fits { FitsJudged Kept judged.now }
+        ensures which { IfOk result (λ answer. (is_refused : Bool) × AreBesideIn (O.bytes self.now.outside) writing.entry is_refused × (is_err answer ≡ is_stopped is_refused judged.now)) }
         ensures shown { IfOk result (λ answer. IfOk answer (λ a. a.status ≡ judged_status judged.now)) }
-        ensures refused { IfOk result (λ answer. IfErr answer (λ a. ((is_some writing.entry.before || is_some writing.entry.names) ≡ true) × (a.status ≡ status.Refused))) }
+        ensures refused { IfOk result (λ answer. IfErr answer (λ a. a.status ≡ status.Refused)) }
         ensures early { IfErr result IsEarly }
     {
         let names = self.full_names(writing.names)?;
@@ -155,8 +159,9 @@ impl<O: Outside, W: Sink, E: Sink> Terminal<O, W, E> {
     ) -> Result<(Read<'a>, Result<Answer, Answer>), Failure<'a, O::Reason>>
         ensures judged { IfOk result (λ both. ForKnown (named_input (O.bytes self.now.outside) book.now) (O.bytes self.now.outside returns.now) (λ input bytes.
             IsJudged Kept None input bytes both.0.judged)) }
+        ensures which { IfOk result (λ both. (is_refused : Bool) × AreBesideIn (O.bytes self.now.outside) writing.entry is_refused × (is_err both.1 ≡ is_stopped is_refused both.0.judged)) }
         ensures shown { IfOk result (λ both. IfOk both.1 (λ a. a.status ≡ judged_status both.0.judged)) }
-        ensures refused { IfOk result (λ both. IfErr both.1 (λ a. ((is_some writing.entry.before || is_some writing.entry.names) ≡ true) × (a.status ≡ status.Refused))) }
+        ensures refused { IfOk result (λ both. IfErr both.1 (λ a. a.status ≡ status.Refused)) }
         ensures early { IfErr result IsEarly }
     {
         let read = self.judged_at(book, returns)?;
@@ -197,11 +202,11 @@ impl<O: Outside, W: Sink, E: Sink> Terminal<O, W, E> {
         returns: &'a str,
         writing: Writing<'a>,
     ) -> Result<Status, Failure<'a, O::Reason>>
-        ensures ends { Ends (λ ends _. IsReportOf (O.bytes self.old.outside) book.now returns.now (is_some writing.entry.before || is_some writing.entry.names) ends)
+        ensures ends { Ends (λ ends _. IsReportIn (O.bytes self.old.outside) book.now returns.now writing.entry ends)
             (W.contents self.old.out) (W.contents self.new.out) result }
         ensures quiet { IfOk result (λ _. self.old.is_quiet ≡ true → self.new.err ≡ self.old.err) }
         ensures done { IfOk result (λ ends. ends ≡ status.Done → OnlyWarns E.contents self.old self.new) }
-        ensures told { IfOk result (λ _. IsOfReport (O.bytes self.old.outside) book.now returns.now (is_some writing.entry.before || is_some writing.entry.names) (Says E.contents self.old self.new)) }
+        ensures told { IfOk result (λ _. IsOfReportIn (O.bytes self.old.outside) book.now returns.now writing.entry (Says E.contents self.old self.new)) }
     {
         let (read, answer) = self.reported(show, book, returns, writing)?;
         let texts = texts_of(book, &read);
@@ -225,11 +230,11 @@ impl<O: Outside, W: Sink, E: Sink> Terminal<O, W, E> {
         form: ReportForm,
         names: Option<&'a str>,
     ) -> Result<Status, Failure<'a, O::Reason>>
-        ensures ends { Ends (λ ends _. IsReportEnd (O.bytes self.old.outside) what.now (is_some names.entry) ends) (W.contents self.old.out) (W.contents self.new.out) result }
+        ensures ends { Ends (λ ends _. IsReportEnd (O.bytes self.old.outside) what.now (option_map (λ path. path.now) names.entry) ends) (W.contents self.old.out) (W.contents self.new.out) result }
         ensures quiet { IfOk result (λ _. self.old.is_quiet ≡ true → self.new.err ≡ self.old.err) }
         ensures done { IfOk result (λ ends. ends ≡ status.Done → OnlyWarns E.contents self.old self.new) }
         ensures still { warns_of what.now ≡ false → IfOk result (λ ends. ends ≡ status.Done → self.new.err ≡ self.old.err) }
-        ensures told { IfOk result (λ _. IsOfWhat (O.bytes self.old.outside) what.now (is_some names.entry) (Says E.contents self.old self.new)) }
+        ensures told { IfOk result (λ _. IsOfWhat (O.bytes self.old.outside) what.now (option_map (λ path. path.now) names.entry) (Says E.contents self.old self.new)) }
     {
         let writing = Writing {
             names,

@@ -1,13 +1,13 @@
 //! The command that puts rulebooks side by side on returns. Each input is read and judged once.
 
-ghost use Rattle.std.specs.Prelude.{◌≡◌, IfOk, None, length, map, true};
+ghost use Rattle.std.specs.Prelude.{◌≡◌, IfOk, None, false, is_err, length, map, option_map, true};
 ghost use Rattle.sl_count_inputs.specs.declared.status.Status.TheVariants as status;
 ghost use Rattle.sl_count_inputs.specs.declared.verdict.Verdict.TheVariants.{Refused};
 ghost use Rattle.sl_terminal_commands.specs.Ends.{Ends, IsSilent};
-ghost use Rattle.sl_terminal_commands.specs.Sums.{IsOfComparison, IsSummary};
+ghost use Rattle.sl_terminal_commands.specs.Sums.{IsComparing, IsOfComparison};
 ghost use Rattle.sl_terminal_commands.specs.Frames.{TellsNothing};
 ghost use Rattle.sl_terminal_commands.specs.Said.{OnlyWarns, Says};
-ghost use Rattle.sl_terminal_commands.specs.inner.Verdicts.{IsDoneOrRefused, IsEndOfAll, IsOfCompared, IsOfOneOf, IsOfTable, IsOfVaried};
+ghost use Rattle.sl_terminal_commands.specs.inner.Verdicts.{EndsWith, IsEndAmong, IsEndOfAll, IsEndVaried, IsOfCompared, IsOfOneOf, IsOfTable, IsOfVaried};
 
 use crate::failure::Failure;
 use crate::manner::{Manner, called_inputs};
@@ -57,7 +57,7 @@ fn compared(
     full: &FullNames,
     language: Language,
 ) -> Result<Answer, NoMemory>
-    ensures { IfOk result (λ a. IsDoneOrRefused a.status) }
+    ensures { IfOk result (λ a. IsEndAmong false books.entry.items a.status) }
 {
     if books.is_empty() {
         return compare_statutes(alloc, returns, full, language);
@@ -75,7 +75,7 @@ fn comparison(
     names: Result<FullNames, Answer>,
     language: Language,
 ) -> Result<Answer, NoMemory>
-    ensures { IfOk result (λ a. IsDoneOrRefused a.status) }
+    ensures { IfOk result (λ a. IsEndAmong (is_err names) books.entry.items a.status) }
 {
     match names {
         Ok(full) => compared(alloc, books, election, &full, language),
@@ -93,7 +93,7 @@ impl<O: Outside, W: Sink, E: Sink> Terminal<O, W, E> {
         names: Result<FullNames, Answer>,
         manner: Manner<'_>,
     ) -> Result<Status, Failure<'a, O::Reason>>
-        ensures ends { Ends (λ ends _. IsDoneOrRefused ends) (W.contents self.old.out) (W.contents self.new.out) result }
+        ensures ends { Ends (λ ends _. IsEndAmong (is_err names) books.entry.items ends) (W.contents self.old.out) (W.contents self.new.out) result }
         ensures untold { IfOk result (λ _. TellsNothing self.old self.new) }
     {
         let answer = comparison(self.alloc, books, election, names, manner.style.language)?;
@@ -108,7 +108,7 @@ impl<O: Outside, W: Sink, E: Sink> Terminal<O, W, E> {
         names: Result<FullNames, Answer>,
         manner: Manner<'_>,
     ) -> Result<Status, Failure<'a, O::Reason>>
-        ensures ends { Ends (λ ends _. IsDoneOrRefused ends) (W.contents self.old.out) (W.contents self.new.out) result }
+        ensures ends { Ends (λ ends _. IsEndAmong (is_err names) books.entry.items ends) (W.contents self.old.out) (W.contents self.new.out) result }
         ensures quiet { IfOk result (λ _. self.old.is_quiet ≡ true → self.new.err ≡ self.old.err) }
         ensures told { IfOk result (λ _. IsOfTable election.now (Says E.contents self.old self.new)) }
     {
@@ -153,7 +153,7 @@ impl<O: Outside, W: Sink, E: Sink> Terminal<O, W, E> {
         names: Result<FullNames, Answer>,
         manner: Manner<'_>,
     ) -> Result<Status, Failure<'a, O::Reason>>
-        ensures ends { Ends (λ ends _. IsDoneOrRefused ends) (W.contents self.old.out) (W.contents self.new.out) result }
+        ensures ends { Ends (λ ends _. IsEndVaried (is_err names) (length methods.now) books.entry.items ends) (W.contents self.old.out) (W.contents self.new.out) result }
         ensures quiet { IfOk result (λ _. self.old.is_quiet ≡ true → self.new.err ≡ self.old.err) }
         ensures done { IfOk result (λ ends. ends ≡ status.Done → OnlyWarns E.contents self.old self.new) }
         ensures told { IfOk result (λ _. IsOfVaried (length methods.now) books.entry.items election.now (Says E.contents self.old self.new)) }
@@ -178,7 +178,8 @@ impl<O: Outside, W: Sink, E: Sink> Terminal<O, W, E> {
         names: Result<FullNames, Answer>,
         manner: Manner<'_>,
     ) -> Result<Status, Failure<'a, O::Reason>>
-        ensures ends { Ends (λ ends _. IsEndOfAll books.entry.items returns.now.read.verdict ends) (W.contents self.old.out) (W.contents self.new.out) result }
+        ensures ends { Ends (λ ends _. IsEndOfAll (is_err names) (length methods.now) books.entry.items returns.now.read.verdict ends)
+            (W.contents self.old.out) (W.contents self.new.out) result }
         ensures quiet { IfOk result (λ _. self.old.is_quiet ≡ true → self.new.err ≡ self.old.err) }
         ensures done { IfOk result (λ ends. ends ≡ status.Done → OnlyWarns E.contents self.old self.new) }
         ensures told { IfOk result (λ _. IsOfCompared (length methods.now) books.entry.items returns.now.read.verdict (Says E.contents self.old self.new)) }
@@ -203,7 +204,8 @@ impl<O: Outside, W: Sink, E: Sink> Terminal<O, W, E> {
         returns: &NamedReturns<'_>,
         writing: Writing<'a>,
     ) -> Result<Status, Failure<'a, O::Reason>>
-        ensures ends { Ends (λ ends _. IsEndOfAll books.entry.items returns.now.read.verdict ends) (W.contents self.old.out) (W.contents self.new.out) result }
+        ensures ends { Ends (λ ends _. EndsWith (O.bytes self.old.outside) (option_map (λ path. path.now) writing.entry.names) (λ is.
+            IsEndOfAll is (length methods.now) books.entry.items returns.now.read.verdict ends)) (W.contents self.old.out) (W.contents self.new.out) result }
         ensures quiet { IfOk result (λ _. self.old.is_quiet ≡ true → self.new.err ≡ self.old.err) }
         ensures done { IfOk result (λ ends. ends ≡ status.Done → OnlyWarns E.contents self.old self.new) }
         ensures told { IfOk result (λ _. IsOfCompared (length methods.now) books.entry.items returns.now.read.verdict (Says E.contents self.old self.new)) }
@@ -223,8 +225,8 @@ impl<O: Outside, W: Sink, E: Sink> Terminal<O, W, E> {
         methods: &[&'a str],
         writing: Writing<'a>,
     ) -> Result<Status, Failure<'a, O::Reason>>
-        ensures ends { Ends (λ ends _. IsSummary (O.bytes self.old.outside) returns.now (map (λ word. word.now) books.now) ends)
-            (W.contents self.old.out) (W.contents self.new.out) result }
+        ensures ends { Ends (λ ends _. IsComparing (O.bytes self.old.outside) returns.now (map (λ word. word.now) books.now) (map (λ word. word.now) methods.now)
+            (option_map (λ path. path.now) writing.entry.names) ends) (W.contents self.old.out) (W.contents self.new.out) result }
         ensures quiet { IfOk result (λ _. self.old.is_quiet ≡ true → self.new.err ≡ self.old.err) }
         ensures done { IfOk result (λ ends. ends ≡ status.Done → OnlyWarns E.contents self.old self.new) }
         ensures told { IfOk result (λ _. IsOfComparison (O.bytes self.old.outside) returns.now (map (λ word. word.now) books.now) (map (λ word. word.now) methods.now)

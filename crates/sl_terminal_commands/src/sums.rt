@@ -1,7 +1,7 @@
 //! Rulebooks and returns that are read, and the command that reports the sums of returns. Each input is read and judged once.
 
 ghost use Rattle.std.specs.Option.{option_map};
-ghost use Rattle.std.specs.Prelude.{◌≡◌, All, IfErr, IfOk, None, map};
+ghost use Rattle.std.specs.Prelude.{◌≡◌, All, IfErr, IfOk, None, is_err, map};
 ghost use Rattle.sl_explain_calls.specs.Codes.{book_code, election_code, subject};
 ghost use Rattle.sl_count_inputs.specs.Judging.{election_verdict, tree_verdict};
 ghost use Rattle.sl_count_inputs.specs.declared.status.Input.TheVariants as input;
@@ -9,9 +9,9 @@ ghost use Rattle.sl_count_inputs.specs.declared.status.Status.TheVariants as sta
 ghost use Rattle.sl_count_inputs.specs.declared.verdict.Verdict.TheVariants.{Refused};
 ghost use Rattle.sl_terminal_commands.specs.Ends.{Ends, IsEarly, IsSilent};
 ghost use Rattle.sl_terminal_commands.specs.Frames.{TellsNothing};
-ghost use Rattle.sl_terminal_commands.specs.Sums.{AreJudged, IsOfSums, IsSummary, IsVerdictOn, given_word};
+ghost use Rattle.sl_terminal_commands.specs.Sums.{AreJudged, IsOfSums, IsSumming, IsVerdictOn, given_word, named_status};
 ghost use Rattle.sl_terminal_commands.specs.Said.{Says, fault};
-ghost use Rattle.sl_terminal_commands.specs.inner.Verdicts.{IsDoneOrRefused, IsEndBy, IsEndOn, IsOfBoth, IsOfElection};
+ghost use Rattle.sl_terminal_commands.specs.inner.Verdicts.{EndsWith, IsEndBy, IsEndOn, IsOfBoth, IsOfElection};
 
 use crate::failure::Failure;
 use crate::manner::{Manner, inputs_of};
@@ -52,7 +52,7 @@ fn sums_of(
     names: Result<FullNames, Answer>,
     language: Language,
 ) -> Result<Answer, NoMemory>
-    ensures { IfOk result (λ a. IsDoneOrRefused a.status) }
+    ensures { IfOk result (λ a. a.status ≡ named_status (is_err names)) }
 {
     match names {
         Ok(full) => {
@@ -179,7 +179,7 @@ impl<O: Outside, W: Sink, E: Sink> Terminal<O, W, E> {
         names: Result<FullNames, Answer>,
         manner: Manner<'_>,
     ) -> Result<Status, Failure<'a, O::Reason>>
-        ensures ends { Ends (λ ends _. IsDoneOrRefused ends) (W.contents self.old.out) (W.contents self.new.out) result }
+        ensures ends { Ends (λ ends _. ends ≡ named_status (is_err names)) (W.contents self.old.out) (W.contents self.new.out) result }
         ensures untold { IfOk result (λ _. self.new.err ≡ self.old.err) }
     {
         let answer = sums_of(self.alloc, book, election, names, manner.style.language)?;
@@ -194,7 +194,7 @@ impl<O: Outside, W: Sink, E: Sink> Terminal<O, W, E> {
         names: Result<FullNames, Answer>,
         manner: Manner<'_>,
     ) -> Result<Status, Failure<'a, O::Reason>>
-        ensures ends { Ends (λ ends _. IsEndOn returns.now.read.verdict ends) (W.contents self.old.out) (W.contents self.new.out) result }
+        ensures ends { Ends (λ ends _. IsEndOn (is_err names) returns.now.read.verdict ends) (W.contents self.old.out) (W.contents self.new.out) result }
         ensures silent { IfOk result (λ ends. IsSilent self.old.is_quiet ends → self.new.err ≡ self.old.err) }
         ensures told { IfOk result (λ _. IsOfElection returns.now.read.verdict (Says E.contents self.old self.new)) }
     {
@@ -212,7 +212,7 @@ impl<O: Outside, W: Sink, E: Sink> Terminal<O, W, E> {
         names: Result<FullNames, Answer>,
         manner: Manner<'_>,
     ) -> Result<Status, Failure<'a, O::Reason>>
-        ensures ends { Ends (λ ends _. IsEndBy book.now.read.verdict returns.now.read.verdict ends) (W.contents self.old.out) (W.contents self.new.out) result }
+        ensures ends { Ends (λ ends _. IsEndBy (is_err names) book.now.read.verdict returns.now.read.verdict ends) (W.contents self.old.out) (W.contents self.new.out) result }
         ensures silent { IfOk result (λ ends. IsSilent self.old.is_quiet ends → self.new.err ≡ self.old.err) }
         ensures told { IfOk result (λ _. IsOfBoth book.now.read.verdict returns.now.read.verdict (Says E.contents self.old self.new)) }
     {
@@ -237,7 +237,8 @@ impl<O: Outside, W: Sink, E: Sink> Terminal<O, W, E> {
         returns: &NamedReturns<'_>,
         writing: Writing<'a>,
     ) -> Result<Status, Failure<'a, O::Reason>>
-        ensures ends { Ends (λ ends _. IsEndBy book.now.read.verdict returns.now.read.verdict ends) (W.contents self.old.out) (W.contents self.new.out) result }
+        ensures ends { Ends (λ ends _. EndsWith (O.bytes self.old.outside) (option_map (λ path. path.now) writing.entry.names) (λ is. IsEndBy is book.now.read.verdict returns.now.read.verdict ends))
+            (W.contents self.old.out) (W.contents self.new.out) result }
         ensures silent { IfOk result (λ ends. IsSilent self.old.is_quiet ends → self.new.err ≡ self.old.err) }
         ensures told { IfOk result (λ _. IsOfBoth book.now.read.verdict returns.now.read.verdict (Says E.contents self.old self.new)) }
     {
@@ -254,7 +255,8 @@ impl<O: Outside, W: Sink, E: Sink> Terminal<O, W, E> {
         returns: &NamedReturns<'_>,
         writing: Writing<'a>,
     ) -> Result<Status, Failure<'a, O::Reason>>
-        ensures ends { Ends (λ ends _. IsEndOn returns.now.read.verdict ends) (W.contents self.old.out) (W.contents self.new.out) result }
+        ensures ends { Ends (λ ends _. EndsWith (O.bytes self.old.outside) (option_map (λ path. path.now) writing.entry.names) (λ is. IsEndOn is returns.now.read.verdict ends))
+            (W.contents self.old.out) (W.contents self.new.out) result }
         ensures silent { IfOk result (λ ends. IsSilent self.old.is_quiet ends → self.new.err ≡ self.old.err) }
         ensures told { IfOk result (λ _. IsOfElection returns.now.read.verdict (Says E.contents self.old self.new)) }
     {
@@ -272,7 +274,7 @@ impl<O: Outside, W: Sink, E: Sink> Terminal<O, W, E> {
         book: Option<&'a str>,
         writing: Writing<'a>,
     ) -> Result<Status, Failure<'a, O::Reason>>
-        ensures ends { Ends (λ ends _. IsSummary (O.bytes self.old.outside) returns.now (given_word (option_map (λ word. word.now) book.entry)) ends)
+        ensures ends { Ends (λ ends _. IsSumming (O.bytes self.old.outside) returns.now (given_word (option_map (λ word. word.now) book.entry)) (option_map (λ path. path.now) writing.entry.names) ends)
             (W.contents self.old.out) (W.contents self.new.out) result }
         ensures silent { IfOk result (λ ends. IsSilent self.old.is_quiet ends → self.new.err ≡ self.old.err) }
         ensures told { IfOk result (λ _. IsOfSums (O.bytes self.old.outside) returns.now (given_word (option_map (λ word. word.now) book.entry))

@@ -1,6 +1,6 @@
 //! Rulebooks with other methods than their own, as `compare --method` puts them next to the originals.
 
-ghost use Rattle.std.specs.Prelude.{◌≡◌, ◌≤◌, All, IfOk, length};
+ghost use Rattle.std.specs.Prelude.{◌≡◌, ◌≤◌, ◌++◌, All, IfOk, length};
 ghost use Rattle.sl_explain_calls.specs.Codes.{subject_of};
 ghost use Rattle.sl_count_inputs.specs.Judging.{tree_verdict};
 ghost use Rattle.sl_ratio.specs.declared.method.Method.{Method};
@@ -114,7 +114,9 @@ pub(crate) fn all_varied<'a>(
 pub(crate) fn behind<'a>(
     mut books: Vec<NamedBook<'a>>,
     mut others: Vec<NamedBook<'a>>,
-) -> Result<Vec<NamedBook<'a>>, NoMemory> {
+) -> Result<Vec<NamedBook<'a>>, NoMemory>
+    ensures { IfOk result (λ all. all.items ≡ books.entry.items ++ others.entry.items) }
+{
     books.append(&mut others)?;
     Ok(books)
 }

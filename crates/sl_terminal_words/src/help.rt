@@ -96,9 +96,11 @@ const RUN: Form = Form {
     statuses: &RUNS,
 };
 
-/// The command that writes a statute.
-pub(crate) const LAW: Form = Form {
-    name: "law",
+/// The name of the command that writes a statute.
+pub(crate) const LAW_NAME: &str = "law";
+
+const LAW: Form = Form {
+    name: LAW_NAME,
     about: LAW_ABOUT,
     words: &[STATUTE],
     options: &OPTIONS,

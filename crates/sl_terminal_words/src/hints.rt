@@ -36,12 +36,8 @@ const MEANT: [(&str, &str); 20] = [
 
 // The command that is meant by a word, in small letters.
 fn meant_by(word: &str) -> Option<&'static str> {
-    for (other, command) in MEANT {
-        if word == other {
-            return Some(command);
-        }
-    }
-    None
+    let (_, command) = MEANT.iter().find(|(other, _)| word == *other)?;
+    Some(command)
 }
 
 // Whether a word is a rulebook or returns, and no command.

@@ -1,6 +1,6 @@
 //! The help of a command as a text, for a language that `clap` does not write; and the end of a help, which `clap` does not have.
 
-use crate::help::{COMMANDS, Form, LAW};
+use crate::help::{COMMANDS, Form, LAW_NAME};
 use crate::texts::{
     ALL_STATUSES, COMMAND, EXAMPLE, HELP_COMMAND, NO_ELECTION, SOME_OPTIONS, STATUSES,
     TITLE_OF_COMMANDS, TITLE_OF_OPTIONS, TITLE_OF_STATUTES, TITLE_OF_WORDS, USAGE, VALUES,
@@ -207,7 +207,7 @@ pub(crate) fn ending_of(
     };
     let mut text = String::from_str(alloc, "\n")?;
     text.push_str(form.more.in_language(language))?;
-    if form.name == LAW.name {
+    if form.name == LAW_NAME {
         let title = TITLE_OF_STATUTES.in_language(language);
         push_list(&mut text, title, statute_rows(alloc, language)?.as_slice())?;
     }

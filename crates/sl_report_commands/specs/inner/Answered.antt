@@ -1,6 +1,6 @@
 -- What `totals` and `compare` answer, by what their inputs come to.
 use Rattle.std.specs.List.{AllZip}
-use Rattle.std.specs.Prelude.{Any, Bool, List, None, Option, Some, true, ◌⊎◌, ◌≡◌}
+use Rattle.std.specs.Prelude.{Any, Bool, List, None, Option, Some, false, true, ◌⊎◌, ◌≡◌}
 use Rattle.sl_count_inputs.specs.Books.{BookInput, IsBookVerdict}
 use Rattle.sl_count_inputs.specs.Judging.{input_of, tree_verdict}
 use Rattle.sl_count_inputs.specs.declared.refused_book.RefusedBook.{RefusedBook}
@@ -26,29 +26,31 @@ IsJudgedBook (Some input) (Some verdict) = IsBookVerdict input (tree_verdict ver
 IsJudgedBook None (Some verdict) = ⊥
 IsJudgedBook (Some input) None = ⊥
 
--- the totals; or a refusal of the names, where some are given
+-- the totals; or a refusal of the names
 abbrev pub IsNamedTotals : Bool → Option Book → Election → Status → List Table → Type 0
-IsNamedTotals is_named book e ends tables = ((ends ≡ status.Done) × AreTotals book e tables) ⊎ ((is_named ≡ true) × IsRefusal ends tables)
+IsNamedTotals are_refused book e ends tables =
+    ((are_refused ≡ false) × (ends ≡ status.Done) × AreTotals book e tables) ⊎ ((are_refused ≡ true) × IsRefusal ends tables)
 
 abbrev pub IsTotalsOn : Bool → Option Book → Verdict Election RefusedElection → Status → List Table → Type 0
-IsTotalsOn is_named book (Good e) = IsNamedTotals is_named book e
-IsTotalsOn is_named book (Refused why) = IsRefusal
+IsTotalsOn are_refused book (Good e) = IsNamedTotals are_refused book e
+IsTotalsOn are_refused book (Refused why) = IsRefusal
 
 abbrev pub IsTotalsBy : Bool → Option (Verdict CheckedBook RefusedBook) → Verdict Election RefusedElection → Status → List Table → Type 0
-IsTotalsBy is_named None = IsTotalsOn is_named None
-IsTotalsBy is_named (Some (Good checked)) = IsTotalsOn is_named (Some checked.book)
-IsTotalsBy is_named (Some (Refused why)) = λ returns. IsRefusal
+IsTotalsBy are_refused None = IsTotalsOn are_refused None
+IsTotalsBy are_refused (Some (Good checked)) = IsTotalsOn are_refused (Some checked.book)
+IsTotalsBy are_refused (Some (Refused why)) = λ returns. IsRefusal
 
--- rulebooks side by side; or a refusal of the names, where some are given
+-- rulebooks side by side; or a refusal of the names
 abbrev pub IsNamedComparison : Bool → List Compared → Election → Status → List Table → Type 0
-IsNamedComparison is_named books e ends tables = ((ends ≡ status.Done) × ShowsCompared e books tables) ⊎ ((is_named ≡ true) × IsRefusal ends tables)
+IsNamedComparison are_refused books e ends tables =
+    ((are_refused ≡ false) × (ends ≡ status.Done) × ShowsCompared e books tables) ⊎ ((are_refused ≡ true) × IsRefusal ends tables)
 
 -- good rulebooks, or a refusal of one of them
 abbrev pub IsComparisonOn : Bool → List Named → Election → Status → List Table → Type 0
-IsComparisonOn is_named named e ends tables =
-    ((books : List Compared) × AllZip IsGoodNamed named books × IsNamedComparison is_named books e ends tables)
+IsComparisonOn are_refused named e ends tables =
+    ((books : List Compared) × AllZip IsGoodNamed named books × IsNamedComparison are_refused books e ends tables)
     ⊎ (IsRefusal ends tables × Any (λ n. IsRefusedBook (input_of n.book)) named)
 
 abbrev pub IsComparisonBy : Bool → List Named → Verdict Election RefusedElection → Status → List Table → Type 0
-IsComparisonBy is_named named (Good e) = IsComparisonOn is_named named e
-IsComparisonBy is_named named (Refused why) = IsRefusal
+IsComparisonBy are_refused named (Good e) = IsComparisonOn are_refused named e
+IsComparisonBy are_refused named (Refused why) = IsRefusal

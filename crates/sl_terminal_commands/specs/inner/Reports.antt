@@ -1,8 +1,30 @@
--- The end of a report of one count, by the answer that shows it or that refuses the names.
-use Rattle.std.specs.Prelude.{Err, Ok, Result, ◌≡◌}
-use Rattle.sl_report_tables.specs.declared.answer.Answer.{Answer}
+-- The end of a report of one count, by the answer that shows it or that refuses the names; and what is read beside its inputs.
+use Rattle.std.specs.Prelude.{Bool, Err, IfSome, List, None, Ok, Option, Result, Some, option_map, ◌≡◌, ℕ}
+use Rattle.sl_count_inputs.specs.Inputs.{Holds}
+use Rattle.sl_count_inputs.specs.declared.input.Bytes.{Bytes}
 use Rattle.sl_count_inputs.specs.declared.status.Status.{Status}
+use Rattle.sl_report_tables.specs.declared.answer.Answer.{Answer}
+use Rattle.sl_terminal_commands.specs.Beside.{AreBeside}
+use Rattle.sl_terminal_commands.specs.Requests.{IsReportOf}
 use Rattle.sl_terminal_commands.specs.Said.{Said, nothing}
+use Rattle.sl_terminal_commands.specs.Tellings.{IsOfReport}
+use Rattle.sl_terminal_commands.specs.declared.reports.Writing.{Writing}
+
+-- the bytes of a file, if one is given, within a limit
+abbrev pub IsReadFrom : (List ℕ → Option (List ℕ)) → (path : Option (List ℕ)) → (limit : ℕ) → Option Bytes → Type 0
+IsReadFrom bytes None limit read = read ≡ None
+IsReadFrom bytes (Some path) limit None = ⊥
+IsReadFrom bytes (Some path) limit (Some read) = IfSome (bytes path) (Holds limit read)
+
+-- with what a report is written
+abbrev pub AreBesideIn : (List ℕ → Option (List ℕ)) → Writing → (is_refused : Bool) → Type 0
+AreBesideIn bytes w = AreBeside bytes (option_map (λ path. path.now) w.names) (option_map (λ path. path.now) w.before)
+
+abbrev pub IsReportIn : (List ℕ → Option (List ℕ)) → List ℕ → List ℕ → Writing → Status → Type 0
+IsReportIn bytes book returns w = IsReportOf bytes book returns (option_map (λ path. path.now) w.names) (option_map (λ path. path.now) w.before)
+
+abbrev pub IsOfReportIn : (List ℕ → Option (List ℕ)) → List ℕ → List ℕ → Writing → (Said → Type 0) → Type 0
+IsOfReportIn bytes book returns w = IsOfReport bytes book returns (option_map (λ path. path.now) w.names) (option_map (λ path. path.now) w.before)
 
 -- the status is that of the answer
 abbrev pub IsShownBy : Result Answer Answer → Status → Type 0

@@ -1,5 +1,6 @@
 use Rattle.std.proofs.Common.{◌∙◌}
-use Rattle.sl_explain_books.proofs.Characters.{fronted, tested}
+use Rattle.sl_explain_texts.proofs.Characters.{tested}
+use Rattle.sl_explain_books.proofs.Characters.{fronted}
 use Rattle.sl_explain_books.proofs.pieces.is_front.Goals as goal
 
 pub returns-in-Some : goal.returns-in-Some

@@ -39,9 +39,9 @@ new-requires-clause-vacant g c = λ slot named.
     let code = c.code-code.result.now in
     let e = c.args.returns.now in
     let h = c.in-Some-Halted in
-    let fits = halted code e (state_of c.steps.new.store) h.base h.vacant h.field-0 c.in_ok-base.field-0 h.is h.field-0-is c.in_ok-base.ensures.fits in
+    let fits = halted code e (state_of c.steps.new.store) h.base h.vacant h.field-0 c.in_ok-end.end h.is h.field-0-is c.in_ok-end.ensures.fits in
     let below = slice_get_within code.slots slot shape.List (fits.vacant slot named) in
-    let columns = ap (λ (z : Sizes). length z.columns) c.in_ok-base.ensures.kept ∙ length-map code.slots _ in
+    let columns = ap (λ (z : Sizes). length z.columns) c.in_ok-end.ensures.kept ∙ length-map code.slots _ in
     omega (arith, columns, below)
 
 pub returns-in-Some-Halted-clause-fits : goal.returns-in-Some-Halted-clause-fits
@@ -50,7 +50,7 @@ returns-in-Some-Halted-clause-fits g c =
     let e = c.args.returns.now in
     let h = c.in-Some-Halted in
     let s = state_of c.steps.new.store in
-    let fits = halted code e s h.base h.vacant h.field-0 c.in_ok-base.field-0 h.is h.field-0-is c.in_ok-base.ensures.fits in
-    let memory = c.new.ensures code e c.in_ok-base.ensures.kept in
+    let fits = halted code e s h.base h.vacant h.field-0 c.in_ok-end.end h.is h.field-0-is c.in_ok-end.ensures.fits in
+    let memory = c.new.ensures code e c.in_ok-end.ensures.kept in
     let held = subst (λ (m : Held). FitsMemory code e m) (sym memory) (held_fits code e s h.base h.vacant fits) in
     subst (λ (x : CountingCode). FitsMemory x e c.new.result) c.code-code.ensures.code held

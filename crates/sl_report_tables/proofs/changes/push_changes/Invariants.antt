@@ -1,7 +1,8 @@
-use Rattle.std.proofs.Common.{map, take, ◌≡◌}
+use Rattle.std.proofs.Common.{Some, map, ◌≡◌}
+use Rattle.std.specs.List.{range_with_len}
 use Rattle.sl_report_forms.specs.Tables.{table_of, with_rows}
 use Rattle.sl_report_tables.specs.Compare.{change_row}
 use Rattle.sl_report_tables.proofs.changes.push_changes.Given as goal
 
 abbrev pub invariant-loop-party : goal.invariant-loop-party
-invariant-loop-party l = table_of l.sheet ≡ with_rows (table_of l.initial.sheet) (map (change_row l.naming.returns.now l.first l.others) (take l.party-index l.party-items))
+invariant-loop-party l = table_of l.sheet ≡ with_rows (table_of l.initial.sheet) (map (λ n. change_row l.naming.returns.now l.first l.others (Some n)) (range_with_len 0 l.party))

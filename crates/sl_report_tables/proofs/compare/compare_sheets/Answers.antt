@@ -1,25 +1,13 @@
-use Rattle.std.proofs.Common.{ap, map, refl, ◌∙◌, ◌++◌, ◌∷◌, []}
+use Rattle.std.proofs.Common.{ap, map}
 use Rattle.sl_report_forms.specs.Tables.{table_of}
-use Rattle.sl_report_tables.specs.Compare.{changes_table, compare_table, list_seats_table, seats_table}
-use Rattle.sl_report_tables.proofs.MoreTables.{table_pushed}
+use Rattle.sl_report_tables.specs.Compare.{IsBooksTable}
+use Rattle.sl_report_tables.proofs.MoreTables.{kind_added, table_added}
 use Rattle.sl_report_tables.proofs.compare.compare_sheets.Goals as goal
 
 pub returns : goal.returns
 returns c =
-    let e = c.args.naming.now.returns.now in
-    let books = c.args.books.now in
-    let lines = table_of c.in_ok-books_sheet.field-0 in
-    record {
-      lines = lines;
-      lines_are = c.in_ok-books_sheet.ensures;
-      tables_are =
-          table_pushed _ _ c.in_ok-each_sheet.field-0 (seats_table e books) c.in_ok-push-5.ensures.items c.in_ok-each_sheet.ensures
-          ∙ ap (λ v. v ++ seats_table e books ∷ []) (
-          table_pushed _ _ c.in_ok-list_seats_sheet.field-0 (list_seats_table e books) c.in_ok-push-4.ensures.items c.in_ok-list_seats_sheet.ensures
-          ∙ ap (λ v. v ++ list_seats_table e books ∷ []) (
-          table_pushed _ _ c.in_ok-changes_sheet.field-0 (changes_table e books) c.in_ok-push-3.ensures.items c.in_ok-changes_sheet.ensures
-          ∙ ap (λ v. v ++ changes_table e books ∷ []) (
-          table_pushed _ _ c.in_ok-seats_sheet.field-0 (compare_table e books) c.in_ok-push-2.ensures.items c.in_ok-seats_sheet.ensures
-          ∙ ap (λ v. v ++ compare_table e books ∷ []) (
-          table_pushed _ _ c.in_ok-books_sheet.field-0 lines c.in_ok-push.ensures.items refl ∙ ap (λ v. map table_of v ++ lines ∷ []) c.new-sheets.ensures.items))));
-    }
+    let lines = kind_added _ _ (IsBooksTable c.args.naming.now.returns.now c.args.books.now) (ap (map table_of) c.new-sheets.ensures.items) c.books_sheet.ensures c.in_ok-add_sheet.ensures in
+    let seats = table_added _ _ _ lines.2 c.seats_sheet.ensures c.in_ok-add_sheet-2.ensures in
+    let changes = table_added _ _ _ seats c.changes_sheet.ensures c.in_ok-add_sheet-3.ensures in
+    let lists = table_added _ _ _ changes c.list_seats_sheet.ensures c.in_ok-add_sheet-4.ensures in
+    record { lines = lines.0; lines_are = lines.1; tables_are = table_added _ _ _ lists c.each_sheet.ensures c.in_ok-add_sheet-5.ensures }

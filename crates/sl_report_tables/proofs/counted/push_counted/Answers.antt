@@ -1,9 +1,9 @@
-use Rattle.std.proofs.Common.{ap, append_assoc, map, ◌∙◌, ◌++◌, ◌∷◌, []}
+use Rattle.std.proofs.Common.{ap, append_assoc, map, refl, ◌∙◌, ◌++◌, ◌∷◌, []}
 use Rattle.sl_report_forms.specs.Tables.{table_of}
 use Rattle.sl_report_tables.specs.Parties.{lists_table}
 use Rattle.sl_report_tables.specs.Reports.{winner_tables}
 use Rattle.sl_report_tables.specs.Scopes.{scope_tables}
-use Rattle.sl_report_tables.proofs.MoreTables.{table_pushed}
+use Rattle.sl_report_tables.proofs.MoreTables.{table_added}
 use Rattle.sl_report_tables.proofs.counted.push_counted.Goals as goal
 
 pub returns : goal.returns
@@ -22,8 +22,8 @@ returns c =
           winners.2
           ∙ ap (λ v. v ++ winner_tables e c.args.counted.now.table winners.0) (
           c.in_ok-push_scope_sheets.ensures
-          ∙ ap (λ xs. map table_of c.push.new.self.items ++ scope_tables xs) c.as_slice.ensures.value
-          ∙ ap (λ v. v ++ scopes) (table_pushed _ _ c.in_ok-lists_sheet.field-0 lists c.in_ok-push.ensures.items c.in_ok-lists_sheet.ensures)
+          ∙ ap (λ xs. map table_of c.add_sheet.new.sheets.items ++ scope_tables xs) c.as_slice.ensures.value
+          ∙ ap (λ v. v ++ scopes) (table_added _ _ lists refl c.lists_sheet.ensures c.in_ok-add_sheet.ensures)
           ∙ append_assoc before (lists ∷ []) scopes)
           ∙ append_assoc before (lists ∷ scopes) (winner_tables e c.args.counted.now.table winners.0);
     }

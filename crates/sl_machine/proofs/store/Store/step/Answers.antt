@@ -16,22 +16,22 @@ weigh-requires-clause-entry g c =
     (λ t. index_at e t.entries s) (λ t. item_of e t.entries) _ case
 
 pub returns-in-House-clause-follows : goal.returns-in-House-clause-follows
-returns-in-House-clause-follows g c = rw c.in-House.is (c.set_house.ensures.follows c.args.code.now)
+returns-in-House-clause-follows g c = rw c.in-House.is (c.set_house-effect.ensures.follows c.args.code.now)
 
 pub returns-in-Table-clause-follows : goal.returns-in-Table-clause-follows
-returns-in-Table-clause-follows g c = rw c.in-Table.is (c.open_table.ensures.follows c.args.code.now c.args.returns.now)
+returns-in-Table-clause-follows g c = rw c.in-Table.is (c.open_table-effect.ensures.follows c.args.code.now c.args.returns.now)
 
 pub returns-in-Peers-clause-follows : goal.returns-in-Peers-clause-follows
-returns-in-Peers-clause-follows g c = rw c.in-Peers.is (c.count_peers.ensures.follows c.args.code.now c.args.returns.now)
+returns-in-Peers-clause-follows g c = rw c.in-Peers.is (c.count_peers-effect.ensures.follows c.args.code.now c.args.returns.now)
 
 pub returns-in-Take-clause-follows : goal.returns-in-Take-clause-follows
-returns-in-Take-clause-follows g c = rw c.in-Take.is (c.take_top.ensures.follows c.args.code.now)
+returns-in-Take-clause-follows g c = rw c.in-Take.is (c.take_top-effect.ensures.follows c.args.code.now)
 
 pub returns-in-Seat-clause-follows : goal.returns-in-Seat-clause-follows
-returns-in-Seat-clause-follows g c = rw c.in-Seat.is (c.seat_on_list.ensures.follows c.args.code.now)
+returns-in-Seat-clause-follows g c = rw c.in-Seat.is (c.seat_on_list-effect.ensures.follows c.args.code.now)
 
 pub returns-in-Single-clause-follows : goal.returns-in-Single-clause-follows
-returns-in-Single-clause-follows g c = rw c.in-Single.is (c.seat_as_single.ensures.follows c.args.code.now)
+returns-in-Single-clause-follows g c = rw c.in-Single.is (c.seat_as_single-effect.ensures.follows c.args.code.now)
 
 pub returns-in-Dropped-records-2-clause-follows : goal.returns-in-Dropped-records-2-clause-follows
 returns-in-Dropped-records-2-clause-follows g c =

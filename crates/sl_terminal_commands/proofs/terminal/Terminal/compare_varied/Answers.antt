@@ -1,12 +1,35 @@
-use Rattle.std.proofs.Common.{All, Contains, inl, inr, length, subst, ◌≡◌}
+use Rattle.std.proofs.Common.{All, Contains, inl, inr, is_err, length, subst, ◌≡◌}
 use Rattle.sl_explain_calls.specs.Codes.{book_code, subject}
 use Rattle.sl_count_inputs.specs.declared.status.Input.TheVariants as input
 use Rattle.sl_count_inputs.specs.declared.status.Status.TheVariants as status
 use Rattle.sl_count_inputs.specs.declared.status.Status.{Status}
+use Rattle.sl_terminal_commands.proofs.Deliveries.{ends_wider}
+use Rattle.sl_terminal_commands.proofs.Summaries.{among_front}
 use Rattle.sl_terminal_commands.proofs.Tellings.{ok_wider, table_warns}
 use Rattle.sl_terminal_commands.proofs.terminal.Terminal.compare_varied.Goals as goal
 use Rattle.sl_terminal_commands.specs.Said.{OnlyWarns, Says, fault}
-use Rattle.sl_terminal_commands.specs.inner.Verdicts.{IsOfTable, IsOfVaried, IsVariedOf}
+use Rattle.sl_terminal_commands.specs.inner.Verdicts.{IsEndAmong, IsEndVaried, IsOfTable, IsOfVaried, IsVariedOf}
+
+pub returns-in-Some-clause-ends : goal.returns-in-Some-clause-ends
+returns-in-Some-clause-ends g c =
+    let books = c.args.books.items in
+    let given = length c.args.methods.now in
+    let varied = c.in_ok-varied.varied.items in
+    let v = c.in-Some.first.book.now in
+    let all : All (IsVariedOf given books) varied = subst (λ all. All (IsVariedOf given all) varied) c.as_slice.ensures.value c.in_ok-varied.ensures in
+    let one : Contains varied v = subst (λ all. Contains all v) c.as_slice-2.ensures.value c.in-Some.ensures.refused.0 in
+    ends_wider (λ ends text. ends ≡ status.Refused) (λ ends text. IsEndVaried (is_err c.args.names) given books ends) (g.W.Sink.contents c.args.self.now.out)
+    (g.W.Sink.contents c.refuse_book.new.self.out) c.refuse_book.result
+    (λ ends text is. inr (is, v, subst (IsVariedOf given books) one.2 (all one.0 v one.1), (c.in-Some.first.refused.now, c.in-Some.ensures.refused.1)))
+    c.refuse_book.ensures.ends
+
+pub returns-clause-ends : goal.returns-clause-ends
+returns-clause-ends g c =
+    let books = c.args.books.items in
+    let is = is_err c.args.names in
+    ends_wider (λ ends text. IsEndAmong is c.in_ok-all-in-None.all.items ends) (λ ends text. IsEndVaried is (length c.args.methods.now) books ends) (g.W.Sink.contents c.args.self.now.out)
+    (g.W.Sink.contents c.finish_comparison.new.self.out) c.finish_comparison.result
+    (λ ends text among. inl (among_front is books c.in_ok-varied.varied.items c.in_ok-all-in-None.all.items c.in_ok-all-in-None.ensures ends among)) c.finish_comparison.ensures.ends
 
 pub returns-in-Some-clause-told : goal.returns-in-Some-clause-told
 returns-in-Some-clause-told g c =

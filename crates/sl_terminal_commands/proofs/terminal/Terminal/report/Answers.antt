@@ -1,11 +1,11 @@
-use Rattle.std.proofs.Common.{Bor, IfOk, List, inl, inr, is_some, map, subst, sym, true, ◌≡◌, ℕ}
+use Rattle.std.proofs.Common.{Bor, IfOk, List, inl, inr, map, option_map, subst, sym, true, ◌≡◌, ℕ}
 use Rattle.sl_count_inputs.specs.declared.status.Status.TheVariants as status
 use Rattle.sl_count_inputs.specs.declared.status.Status.{Status}
 use Rattle.sl_terminal_commands.proofs.Tellings.{ok_wider, silent_warns}
 use Rattle.sl_terminal_commands.proofs.terminal.Terminal.report.Goals as goal
 use Rattle.sl_terminal_commands.specs.Ends.{Ends, IsSilent}
 use Rattle.sl_terminal_commands.specs.Requests.{IsReportEnd}
-use Rattle.sl_terminal_commands.specs.Sums.{IsOfComparison, IsSummary}
+use Rattle.sl_terminal_commands.specs.Sums.{IsComparing, IsOfComparison}
 use Rattle.sl_terminal_commands.specs.Said.{Says}
 use Rattle.sl_terminal_commands.specs.Tellings.{IsOfWhat}
 
@@ -15,7 +15,7 @@ returns-in-Totals-clause-ends g c =
     subst
     (
     λ what.
-    Ends (λ ends text. IsReportEnd bytes what (is_some c.args.names) ends) (g.W.Sink.contents c.args.self.now.out)
+    Ends (λ ends text. IsReportEnd bytes what (option_map (λ path. path.now) c.args.names) ends) (g.W.Sink.contents c.args.self.now.out)
     (g.W.Sink.contents c.report_totals.new.self.out) c.report_totals.result
     )
     (sym c.in-Totals.is) c.report_totals.ensures.ends
@@ -24,21 +24,20 @@ pub returns-in-Totals-clause-told : goal.returns-in-Totals-clause-told
 returns-in-Totals-clause-told g c =
     let bytes = g.O.Outside.bytes c.args.self.now.outside in
     let says = Says g.E.Sink.contents c.args.self.now c.report_totals.new.self in
-    subst (λ what. IfOk c.report_totals.result (λ ends. IsOfWhat bytes what (is_some c.args.names) says)) (sym c.in-Totals.is) c.report_totals.ensures.told
+    subst (λ what. IfOk c.report_totals.result (λ ends. IsOfWhat bytes what (option_map (λ path. path.now) c.args.names) says)) (sym c.in-Totals.is) c.report_totals.ensures.told
 
 pub returns-in-Compare-clause-ends : goal.returns-in-Compare-clause-ends
 returns-in-Compare-clause-ends g c =
     let bytes = g.O.Outside.bytes c.args.self.now.outside in
+    let path = c.in-Compare.returns.now in
+    let names = option_map (λ (path : Bor (List ℕ)). path.now) c.args.names in
     let old = g.W.Sink.contents c.args.self.now.out in
     let new = g.W.Sink.contents c.report_comparison.new.self.out in
-    let ends =
-    subst
-    (
-    λ words.
-    Ends (λ ends text. IsSummary bytes c.in-Compare.returns.now (map (λ (word : Bor (List ℕ)). word.now) words) ends) old new c.report_comparison.result
-    )
-    c.as_slice.ensures.value c.report_comparison.ensures.ends in
-    subst (λ what. Ends (λ ends text. IsReportEnd bytes what (is_some c.args.names) ends) old new c.report_comparison.result) (sym c.in-Compare.is) ends
+    let words = λ (all : List (Bor (List ℕ))). map (λ (word : Bor (List ℕ)). word.now) all in
+    let Is = λ (books methods : List (Bor (List ℕ))). Ends (λ ends text. IsComparing bytes path (words books) (words methods) names ends) old new c.report_comparison.result in
+    let of_books = subst (λ all. Is all c.as_slice-methods.result.now) c.as_slice.ensures.value c.report_comparison.ensures.ends in
+    let of_both = subst (Is c.in-Compare.books.items) c.as_slice-methods.ensures.value of_books in
+    subst (λ what. Ends (λ ends text. IsReportEnd bytes what names ends) old new c.report_comparison.result) (sym c.in-Compare.is) of_both
 
 pub returns-in-Compare-clause-told : goal.returns-in-Compare-clause-told
 returns-in-Compare-clause-told g c =
@@ -49,7 +48,7 @@ returns-in-Compare-clause-told g c =
     let Tells = λ (books methods : List (Bor (List ℕ))). IfOk c.report_comparison.result (λ ends. IsOfComparison bytes path (words books) (words methods) says) in
     let of_books = subst (λ all. Tells all c.as_slice-methods.result.now) c.as_slice.ensures.value c.report_comparison.ensures.told in
     let of_both = subst (Tells c.in-Compare.books.items) c.as_slice-methods.ensures.value of_books in
-    subst (λ what. IfOk c.report_comparison.result (λ ends. IsOfWhat bytes what (is_some c.args.names) says)) (sym c.in-Compare.is) of_both
+    subst (λ what. IfOk c.report_comparison.result (λ ends. IsOfWhat bytes what (option_map (λ path. path.now) c.args.names) says)) (sym c.in-Compare.is) of_both
 
 pub returns-in-Totals-clause-quiet : goal.returns-in-Totals-clause-quiet
 returns-in-Totals-clause-quiet g c =
