@@ -1,7 +1,7 @@
 //! Counting, reports and explanations for a web page: calls over memory that the page hands in (docs/page.md).
 //!
-//! Stands on `sl_report_commands` and `sl_explain_codes`; nothing stands on it. Proved: what each call hands over; of reports and
-//! explanations, their status and the code of the fault.
+//! Stands on `sl_report_commands` and `sl_explain_codes`; nothing stands on it. Proved: what each call of the desk hands over; the
+//! status of reports, totals and explanations, and the code of the fault. Of a comparison only that it stays within the room.
 //!
 //! Where an error is `NoMemory` alone, memory ran out, and nothing else is wrong.
 #![tactic(auto)]
