@@ -9,10 +9,10 @@ use Rattle.sl_stages.specs.declared.book.Cond.{Cond}
 use Rattle.sl_stages.specs.declared.book.Cond.TheVariants as condition
 use Rattle.sl_code_instructions.specs.declared.instr.Instr.TheVariants.{Zero}
 use Rattle.sl_code_instructions.specs.Codes.{CountingCode}
-use Rattle.sl_verify.specs.declared.needs.TheConstants.{LAST_CLAUSE}
-use Rattle.sl_verify.specs.Kinds.{start_kinds}
-use Rattle.sl_verify.specs.Needs.{Context}
-use Rattle.sl_verify.proofs.Passing.{both_hold}
+use Rattle.sl_code_semantics.specs.declared.known.TheConstants.{LAST_CLAUSE}
+use Rattle.sl_code_semantics.specs.Kinds.{start_kinds}
+use Rattle.sl_code_semantics.specs.Needs.{Context}
+use Rattle.sl_code_semantics.proofs.kinds.Passing.{both_hold}
 use Rattle.sl_compile_plans.specs.Trees.{Tree, Line}
 use Rattle.sl_compile_plans.specs.Fine.{is_fine, judged_by, kinds_along}
 use Rattle.sl_compile_pieces.specs.facts.Trees.{conditions_tree, condition_tree, eligible_tree, fact_tree}

@@ -11,10 +11,10 @@ use Rattle.sl_code_instructions.specs.Codes.{CountingCode}
 use Rattle.sl_code_instructions.specs.Proper.{IsInRange}
 use Rattle.sl_code_instructions.specs.Rows.{target_of}
 use Rattle.sl_code_instructions.specs.Standing.{HasAt}
-use Rattle.sl_verify.specs.Kinds.{start_kinds}
-use Rattle.sl_verify.specs.Pieces.{JumpsWithin}
-use Rattle.sl_verify.specs.WellKinded.{context_of}
-use Rattle.sl_verify.proofs.PieceFacts.{nothing_asked}
+use Rattle.sl_code_semantics.specs.Kinds.{start_kinds}
+use Rattle.sl_code_semantics.specs.Pieces.{JumpsWithin}
+use Rattle.sl_code_semantics.specs.WellKinded.{context_of}
+use Rattle.sl_code_semantics.proofs.kinds.PieceFacts.{nothing_asked}
 use Rattle.sl_code_semantics.specs.State.{State, End}
 use Rattle.sl_code_semantics.proofs.runs.Coming.{wider, ends_wider}
 use Rattle.sl_compile_plans.specs.Trees.{Tree, size_of, flat}

@@ -10,9 +10,9 @@ use Rattle.sl_code_instructions.specs.declared.kinds.Kinds.{Kinds}
 use Rattle.sl_code_instructions.specs.Codes.{CountingCode}
 use Rattle.sl_code_instructions.specs.Proper.{IsInRange}
 use Rattle.sl_code_instructions.specs.Standing.{HasAt}
-use Rattle.sl_verify.specs.Kinds.{start_kinds}
-use Rattle.sl_verify.specs.Pieces.{comes_after, are_passed, JumpsWithin}
-use Rattle.sl_verify.specs.WellKinded.{context_of}
+use Rattle.sl_code_semantics.specs.Kinds.{start_kinds}
+use Rattle.sl_code_semantics.specs.Pieces.{comes_after, are_passed, JumpsWithin}
+use Rattle.sl_code_semantics.specs.WellKinded.{context_of}
 use Rattle.sl_code_semantics.specs.State.{State, End}
 use Rattle.sl_code_semantics.specs.Runs.{share_of}
 use Rattle.sl_compile_plans.specs.Achieves.{Reaches}

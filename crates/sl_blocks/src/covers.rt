@@ -12,6 +12,7 @@ use crate::batches::batches;
 use crate::blocks::MAX_BLOCK_INSTRS;
 use crate::entries::NOTHING;
 use sl_code_instructions::{Entries, Instr, MAX_INSTRS, Ranking, ScopeKind};
+use sl_code_semantics::LAST_CLAUSE;
 use sl_compile_pieces::registers::{
     AMOUNT, BASE, FIRST_PASSING, IN_BATCH, LEFT, NEEDED, PEERS, SECOND_PASSING, TOTAL, TURNS,
     WEIGHT,
@@ -20,7 +21,6 @@ use sl_compile_plans::Part::Fixed;
 use sl_compile_plans::{Bound, Cursor, ONES, Part, Plan, Test, lay};
 use sl_ratio::NoMemory;
 use sl_stages::Shape;
-use sl_verify::LAST_CLAUSE;
 
 /// How many winners the list at the cursors has; later, its number.
 const GET_NUMBER: Part = Part::Given(0);

@@ -1,4 +1,5 @@
 -- The lemmas of the semantics.
+pub mod kinds
 pub mod soundness
 pub mod effects
 pub mod runs

@@ -7,8 +7,8 @@ use Rattle.sl_code_instructions.specs.declared.kinds.Cursors.{Cursors}
 use Rattle.sl_code_instructions.specs.declared.kinds.TableState.{TableState}
 use Rattle.sl_code_instructions.specs.declared.kinds.Kinds.{Kinds}
 use Rattle.sl_code_instructions.specs.Codes.{CountingCode}
-use Rattle.sl_verify.specs.Kinds.{contains}
-use Rattle.sl_verify.specs.WellKinded.{IsWellKinded}
+use Rattle.sl_code_semantics.specs.Kinds.{contains}
+use Rattle.sl_code_semantics.specs.WellKinded.{IsWellKinded}
 use Rattle.sl_code_semantics.specs.State.{State, PriorityTable}
 use Rattle.sl_code_semantics.specs.Fits.{FitsRecords}
 use Rattle.sl_code_semantics.specs.Safe.{IsInRange}

@@ -29,8 +29,8 @@ use Rattle.sl_code_instructions.specs.declared.operand.Rounding.{Rounding}
 use Rattle.sl_code_instructions.specs.declared.operand.ScopeKind.{ScopeKind}
 use Rattle.sl_code_instructions.specs.Codes.{CountingCode}
 use Rattle.sl_code_instructions.specs.Numbers.{divisor_of}
-use Rattle.sl_verify.specs.declared.needs.TheConstants.{LAST_CLAUSE}
-use Rattle.sl_verify.specs.Kinds.{same_ranking}
+use Rattle.sl_code_semantics.specs.declared.known.TheConstants.{LAST_CLAUSE}
+use Rattle.sl_code_semantics.specs.Kinds.{same_ranking}
 use Rattle.sl_code_semantics.specs.State.{State, PriorityTable, End, Halted, Faulted, with_register, with_column, with_cell, with_place}
 use Rattle.sl_code_semantics.specs.Places.{both, cell_at, index_at, item_of, at_entry, scope_at}
 use Rattle.sl_prio.specs.Prio.{top, peers, is_covered}

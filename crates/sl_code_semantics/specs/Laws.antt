@@ -3,9 +3,9 @@ use Rattle.std.specs.Prelude.{◌≡◌, ◌≢◌, ℕ, ◌+◌, Some, IsTrue, 
 use Rattle.sl_stages.specs.returns.Election.{Election, IsElection}
 use Rattle.sl_code_instructions.specs.declared.instr.Instr.{Instr}
 use Rattle.sl_code_instructions.specs.Codes.{CountingCode}
-use Rattle.sl_verify.specs.Needs.{has_columns}
+use Rattle.sl_code_semantics.specs.Needs.{has_columns}
 use Rattle.sl_code_instructions.specs.Rows.{target_of}
-use Rattle.sl_verify.specs.WellKinded.{IsWellKinded, context_of}
+use Rattle.sl_code_semantics.specs.WellKinded.{IsWellKinded, context_of}
 use Rattle.sl_code_semantics.specs.State.{State, End, start}
 use Rattle.sl_code_semantics.specs.Effects.{Goes, Jumps, Ends, effect}
 use Rattle.sl_code_semantics.specs.Fits.{FitsEnd}

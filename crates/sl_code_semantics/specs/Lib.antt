@@ -1,3 +1,10 @@
+-- The definitions of what is known at the places of a code, and of what its instructions do.
+pub mod Kinds
+pub mod Needs
+pub mod Leaves
+pub mod WellKinded
+pub mod Pieces
+pub mod Faults
 pub mod State
 pub mod Places
 pub mod Drawn

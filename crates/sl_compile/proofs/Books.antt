@@ -34,7 +34,7 @@ use Rattle.sl_compile.proofs.rulebooks.Books.{books_are_compiled_by}
 use Rattle.sl_compile.proofs.rulebooks.Costs.{books_cost}
 use Rattle.sl_compile.proofs.rulebooks.KindsOfBooks.{books_are_kinded}
 use Rattle.sl_compile.proofs.rulebooks.Slots.{has_first}
-use Rattle.sl_verify.specs.WellKinded.{IsWellKinded}
+use Rattle.sl_code_semantics.specs.WellKinded.{IsWellKinded}
 use Rattle.sl_compile.specs.inner.Codes.{IsCodeOf}
 use Rattle.sl_compile.specs.inner.Slots.{low_shapes}
 use Rattle.sl_compile.specs.inner.Earlier.{columns}

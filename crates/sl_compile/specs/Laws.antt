@@ -5,7 +5,7 @@ use Rattle.sl_stages.specs.declared.book.Cond.{Cond}
 use Rattle.sl_stages.specs.book.Trees.{BookTree}
 use Rattle.sl_stages.specs.book.Typing.{is_typed}
 use Rattle.sl_stages.specs.book.Limits.{is_within_limits}
-use Rattle.sl_verify.specs.WellKinded.{IsWellKinded}
+use Rattle.sl_code_semantics.specs.WellKinded.{IsWellKinded}
 use Rattle.sl_compile.specs.Conditions.{SayTheSame}
 use Rattle.sl_compile.specs.Codes.{book_code, AreBookInstrs}
 use Rattle.sl_compile.specs.Compiled.{IsCompiled}

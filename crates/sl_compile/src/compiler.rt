@@ -20,9 +20,9 @@ use crate::slots::{add_columns, low_slots};
 use crate::stages::lay_stages;
 use sl_blocks::Easiest;
 use sl_code_instructions::{Code, Instr};
+use sl_code_semantics::Verified;
 use sl_ratio::NoMemory;
 use sl_stages::{Book, CheckedBook, ColumnType, MAX_STAGES, Shape};
-use sl_verify::Verified;
 use std::alloc::Global;
 
 /// Appends the blocks of a book and its last instruction, and says what the column of each stage has.

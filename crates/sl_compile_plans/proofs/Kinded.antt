@@ -10,13 +10,13 @@ use Rattle.sl_code_instructions.specs.declared.kinds.Kinds.{Kinds}
 use Rattle.sl_code_instructions.specs.Codes.{CountingCode}
 use Rattle.sl_code_instructions.specs.Rows.{target_of}
 use Rattle.sl_code_instructions.specs.Standing.{HasAt}
-use Rattle.sl_verify.specs.Kinds.{implies, includes, covers, fits_table}
-use Rattle.sl_verify.specs.Leaves.{ends, behind, carried}
-use Rattle.sl_verify.specs.Needs.{Context, has_needs}
-use Rattle.sl_verify.specs.Pieces.{kinds_here, comes_next, comes_after, meets, has_own, is_passed, are_passed, IsWithin}
-use Rattle.sl_verify.specs.WellKinded.{declared_by, declared_at, context_of, leads_well}
-use Rattle.sl_verify.proofs.Passing.{both_hold}
-use Rattle.sl_verify.proofs.PieceFacts.{comes_in_row, passed_in_row, passed_within}
+use Rattle.sl_code_semantics.specs.Kinds.{implies, includes, covers, fits_table}
+use Rattle.sl_code_semantics.specs.Leaves.{ends, behind, carried}
+use Rattle.sl_code_semantics.specs.Needs.{Context, has_needs}
+use Rattle.sl_code_semantics.specs.Pieces.{kinds_here, comes_next, comes_after, meets, has_own, is_passed, are_passed, IsWithin}
+use Rattle.sl_code_semantics.specs.WellKinded.{declared_by, declared_at, context_of, leads_well}
+use Rattle.sl_code_semantics.proofs.kinds.Passing.{both_hold}
+use Rattle.sl_code_semantics.proofs.kinds.PieceFacts.{comes_in_row, passed_in_row, passed_within}
 use Rattle.sl_compile_plans.specs.declared.plan.Test.{Test}
 use Rattle.sl_compile_plans.specs.declared.plan.Test.TheVariants as test
 use Rattle.sl_compile_plans.specs.declared.plan.Bound.{Bound}

@@ -5,7 +5,7 @@ use Rattle.sl_code_instructions.specs.declared.instr.Instr.TheVariants.{At}
 use Rattle.sl_code_instructions.specs.Codes.{CountingCode}
 use Rattle.sl_code_instructions.specs.Standing.{HasAt}
 use Rattle.sl_code_instructions.proofs.Standing.{first_stands, next_stand}
-use Rattle.sl_verify.specs.Kinds.{start_kinds}
+use Rattle.sl_code_semantics.specs.Kinds.{start_kinds}
 use Rattle.sl_code_semantics.specs.State.{State, End}
 use Rattle.sl_code_semantics.specs.Comes.{Comes}
 use Rattle.sl_code_semantics.proofs.runs.Coming.{after, ends_after, wider, ends_wider, comes_at}

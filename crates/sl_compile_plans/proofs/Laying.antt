@@ -4,7 +4,7 @@ use Rattle.std.proofs.lemmas.List.{take_more, map-append}
 use Rattle.sl_code_instructions.specs.declared.instr.Instr.{Instr}
 use Rattle.sl_code_instructions.specs.declared.kinds.Kinds.{Kinds}
 use Rattle.sl_code_instructions.specs.declared.instr.Instr.TheVariants.{Jmp, At}
-use Rattle.sl_verify.specs.Kinds.{start_kinds}
+use Rattle.sl_code_semantics.specs.Kinds.{start_kinds}
 use Rattle.sl_compile_plans.specs.declared.plan.Test.{Test}
 use Rattle.sl_compile_plans.specs.declared.plan.Test.TheVariants as test
 use Rattle.sl_compile_plans.specs.Trees.{Tree, If, is_nothing, size_of, flat, jump_of, at_join, known_after, known_after_all, known_in_arm, known_in_other}

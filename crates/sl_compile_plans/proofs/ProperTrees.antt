@@ -10,7 +10,7 @@ use Rattle.sl_code_instructions.specs.declared.parts.Operand.{Operand}
 use Rattle.sl_code_instructions.specs.declared.parts.Operand.TheVariants as o
 use Rattle.sl_code_instructions.specs.Rows.{operands_of}
 use Rattle.sl_code_instructions.specs.Proper.{FitsBytes, IsInRange}
-use Rattle.sl_verify.specs.Kinds.{start_kinds}
+use Rattle.sl_code_semantics.specs.Kinds.{start_kinds}
 use Rattle.sl_compile_plans.specs.declared.plan.Bound.{Bound}
 use Rattle.sl_compile_plans.specs.declared.plan.Cursor.{Cursor}
 use Rattle.sl_compile_plans.specs.declared.plan.Cursor.TheVariants as cursor

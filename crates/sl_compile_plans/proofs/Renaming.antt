@@ -10,10 +10,10 @@ use Rattle.sl_code_instructions.specs.declared.instr.Instr.{Instr}
 use Rattle.sl_code_instructions.specs.declared.instr.Instr.TheVariants as op
 use Rattle.sl_code_instructions.specs.declared.kinds.Kinds.{Kinds}
 use Rattle.sl_code_instructions.specs.declared.kinds.TableState.{TableState}
-use Rattle.sl_verify.specs.Kinds.{no_cursors, contains, with_register, covers, implies}
-use Rattle.sl_verify.specs.Needs.{Context, has_slot, has_column, has_stage, has_registers, has_columns, has_kinds, has_table, has_needs, input_shape, shape_cursors, needed_positive, needed_cursors}
-use Rattle.sl_verify.specs.Leaves.{ends, carried}
-use Rattle.sl_verify.proofs.Passing.{both_hold}
+use Rattle.sl_code_semantics.specs.Kinds.{no_cursors, contains, with_register, covers, implies}
+use Rattle.sl_code_semantics.specs.Needs.{Context, has_slot, has_column, has_stage, has_registers, has_columns, has_kinds, has_table, has_needs, input_shape, shape_cursors, needed_positive, needed_cursors}
+use Rattle.sl_code_semantics.specs.Leaves.{ends, carried}
+use Rattle.sl_code_semantics.proofs.kinds.Passing.{both_hold}
 use Rattle.sl_compile_plans.specs.declared.plan.Bound.{Bound}
 use Rattle.sl_compile_plans.specs.declared.plan.Cursor.{Cursor}
 use Rattle.sl_compile_plans.specs.declared.plan.Cursor.TheVariants as cursor

@@ -13,7 +13,7 @@ use Rattle.sl_code_semantics.proofs.effects.Cursors.{both_are}
 use Rattle.sl_compile_plans.specs.declared.plan.Cursor.TheVariants as cursor
 use Rattle.sl_compile_plans.specs.Trees.{Each}
 use Rattle.sl_compile_plans.specs.Achieves.{Achieves, Never}
-use Rattle.sl_verify.specs.Kinds.{start_kinds}
+use Rattle.sl_code_semantics.specs.Kinds.{start_kinds}
 use Rattle.sl_compile_plans.specs.Fine.{bare, is_fine, judged_by}
 use Rattle.sl_compile_plans.specs.Sums.{add_cell, sum_tree, sum_of_first, ColumnsAreSummed, SumsAreAccepted}
 use Rattle.sl_compile_plans.proofs.Rules.{line_ends, line_goes, then_achieves}

@@ -8,11 +8,11 @@ use Rattle.sl_code_instructions.specs.declared.kinds.Kinds.{Kinds}
 use Rattle.sl_code_instructions.specs.Codes.{CountingCode}
 use Rattle.sl_code_instructions.specs.Rows.{target_of}
 use Rattle.sl_code_instructions.specs.Standing.{HasAt}
-use Rattle.sl_verify.specs.Kinds.{implies}
-use Rattle.sl_verify.specs.Leaves.{ends, positive_behind, cursors_behind, table_behind, carried}
-use Rattle.sl_verify.specs.Needs.{Context, has_needs}
-use Rattle.sl_verify.specs.Pieces.{are_passed, comes_after, JumpsWithin}
-use Rattle.sl_verify.specs.WellKinded.{declared_by, context_of}
+use Rattle.sl_code_semantics.specs.Kinds.{implies}
+use Rattle.sl_code_semantics.specs.Leaves.{ends, positive_behind, cursors_behind, table_behind, carried}
+use Rattle.sl_code_semantics.specs.Needs.{Context, has_needs}
+use Rattle.sl_code_semantics.specs.Pieces.{are_passed, comes_after, JumpsWithin}
+use Rattle.sl_code_semantics.specs.WellKinded.{declared_by, context_of}
 use Rattle.sl_compile_plans.specs.Trees.{Tree, Line, Stop, Then, If, Each, Times, flat, jump_of, to_first, to_next, ones, at_join, known_in_arm, known_in_turn, known_after_loop}
 
 -- the same kinds, but for positive registers

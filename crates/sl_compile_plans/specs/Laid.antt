@@ -4,7 +4,7 @@ use Rattle.sl_stages.specs.returns.Election.{Election}
 use Rattle.sl_code_instructions.specs.declared.instr.Instr.{Instr}
 use Rattle.sl_code_instructions.specs.declared.instr.Instr.TheVariants.{At}
 use Rattle.sl_code_instructions.specs.Codes.{CountingCode}
-use Rattle.sl_verify.specs.Kinds.{start_kinds}
+use Rattle.sl_code_semantics.specs.Kinds.{start_kinds}
 use Rattle.sl_code_semantics.specs.State.{State, End}
 use Rattle.sl_compile_plans.specs.Trees.{Tree, size_of, flat}
 use Rattle.sl_compile_plans.specs.Meaning.{cost}

@@ -7,9 +7,9 @@ use Rattle.sl_code_instructions.specs.declared.instr.Instr.TheVariants.{Set, Get
 use Rattle.sl_code_instructions.specs.declared.kinds.Kinds.{Kinds}
 use Rattle.sl_code_instructions.specs.Codes.{CountingCode}
 use Rattle.sl_code_instructions.specs.Standing.{HasAt}
-use Rattle.sl_verify.specs.Kinds.{start_kinds}
-use Rattle.sl_verify.specs.WellKinded.{context_of}
-use Rattle.sl_verify.specs.Pieces.{JumpsWithin}
+use Rattle.sl_code_semantics.specs.Kinds.{start_kinds}
+use Rattle.sl_code_semantics.specs.WellKinded.{context_of}
+use Rattle.sl_code_semantics.specs.Pieces.{JumpsWithin}
 use Rattle.sl_code_semantics.specs.State.{State}
 use Rattle.sl_code_semantics.specs.Comes.{Comes}
 use Rattle.sl_code_semantics.specs.Effects.{most}

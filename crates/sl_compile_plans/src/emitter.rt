@@ -9,8 +9,8 @@ ghost use Rattle.sl_compile_plans.specs.Trees.{is_nothing, size_of, flat, jump_o
 use crate::known::{at_join, known_after, known_in_arm, with_cursor_known};
 use crate::plan::{Cursor, Part, Plan, Test};
 use sl_code_instructions::{Cursors, Instr, Kinds, MAX_INSTRS, Registers};
+use sl_code_semantics::REGISTERS;
 use sl_ratio::NoMemory;
-use sl_verify::REGISTERS;
 
 /// The register of the number 1, by which other registers count.
 pub const ONES: u8 = REGISTERS - 1;

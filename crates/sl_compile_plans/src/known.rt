@@ -5,7 +5,7 @@ ghost use Rattle.sl_compile_plans.specs.Trees.{at_join, known_after, known_in_ar
 
 use crate::plan::{Cursor, Test};
 use sl_code_instructions::{Instr, Kinds};
-use sl_verify::{cursors_behind, table_behind, with_ready};
+use sl_code_semantics::{cursors_behind, table_behind, with_ready};
 
 /// What is known where a form ends that began with this known.
 pub fn at_join(known: Kinds) -> Kinds

@@ -2,8 +2,8 @@
 //! counts once: what the two come to is one value, which of them is refused and why, or the count of the one on the other. One call makes it of bytes,
 //! one of readers, and the text is a view of it.
 //!
-//! Stands on `sl_count_inputs`, `sl_compile` and `sl_table`; used by the rooms count, report and terminal. Proved: the value is the outcome which the
-//! rulebook means on the returns, or the first refusal, and the text that is written is that of the value.
+//! Stands on `sl_count_inputs`, `sl_compile`, `sl_machine` and `sl_table`; used by the rooms count, report and terminal. Proved: the value is the
+//! outcome which the rulebook means on the returns, or the first refusal, and the text that is written is that of the value.
 //!
 //! Where an error is `NoMemory` alone, memory ran out, and nothing else is wrong.
 #![tactic(auto)]

@@ -15,12 +15,12 @@ ghost use Rattle.sl_count_calls.specs.inner.Held.{EndsAs, HasSlots, Holds, recor
 use crate::columns::columns_of;
 use sl_check::CheckedBook;
 use sl_code_instructions::Code;
+use sl_code_semantics::Verified;
 use sl_compile::compile;
 use sl_machine::{Ending, Memory, budget, run, run_unrecorded};
 use sl_ratio::NoMemory;
 use sl_stages::{Book, Counted, End, Records, Returns};
 use sl_table::into_table;
-use sl_verify::Verified;
 use std::alloc::Global;
 
 /// What a rulebook comes to on returns, and the code that was run, which has the names of the stages.

@@ -11,10 +11,10 @@ use Rattle.sl_count_code_files.specs.declared.refusal.CodeRefusal.{CodeRefusal}
 use Rattle.sl_count_inputs.specs.declared.refusal.Numbered.{Numbered}
 use Rattle.sl_count_inputs.specs.declared.verdict.Verdict.TheVariants.{Good, Refused}
 use Rattle.sl_count_inputs.specs.declared.verdict.Verdict.{Verdict}
-use Rattle.sl_verify.specs.Faults.{verify_fault}
-use Rattle.sl_verify.specs.WellKinded.{IsWellKinded}
-use Rattle.sl_verify.specs.declared.fault.VerifyFault.TheVariants as verify
-use Rattle.sl_verify.specs.declared.fault.VerifyFault.{VerifyFault}
+use Rattle.sl_code_semantics.specs.Faults.{verify_fault}
+use Rattle.sl_code_semantics.specs.WellKinded.{IsWellKinded}
+use Rattle.sl_code_semantics.specs.declared.fault.VerifyFault.TheVariants as verify
+use Rattle.sl_code_semantics.specs.declared.fault.VerifyFault.{VerifyFault}
 
 -- the bytes are too long; or they spell no code; or the code fails a test of the verifier; or they spell a well-kinded code
 abbrev pub IsCodeVerdict : List ℕ → Verdict CountingCode CodeRefusal → Type 0

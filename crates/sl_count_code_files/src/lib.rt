@@ -1,6 +1,6 @@
 //! Code files as inputs: what their bytes come to, and the lines that refuse them.
 //!
-//! Stands on `sl_count_inputs` and `sl_code`; used by the room count. Proved: a code, or the first fault of the bytes.
+//! Stands on `sl_count_inputs`, `sl_code` and `sl_verify`; used by the room count. Proved: a code, or the first fault of the bytes.
 //!
 //! Where an error is `NoMemory` alone, memory ran out, and nothing else is wrong.
 #![tactic(auto)]

@@ -4,9 +4,9 @@ ghost use Rattle.std.specs.Prelude.{◌≡◌, IfOk};
 ghost use Rattle.sl_count_code_files.specs.CodeFiles.{code_fault, kinds_fault};
 
 use sl_code::CodeFault;
+use sl_code_semantics::VerifyFault;
 use sl_count_inputs::{Numbered, refused, refused_by};
 use sl_ratio::NoMemory;
-use sl_verify::VerifyFault;
 use std::alloc::Global;
 
 /// Why a code file is refused.

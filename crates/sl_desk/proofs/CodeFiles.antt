@@ -8,9 +8,9 @@ use Rattle.sl_code_instructions.specs.Codes.{CountingCode}
 use Rattle.sl_code.specs.Faults.{IsFault}
 use Rattle.sl_code.specs.Laws.{IsByte, CodeOrFault, OneCode, OneFault, SpellingOrFault}
 use Rattle.sl_code.specs.Reading.{IsReading}
-use Rattle.sl_verify.specs.declared.fault.VerifyFault.{VerifyFault}
-use Rattle.sl_verify.specs.Faults.{verify_fault}
-use Rattle.sl_verify.specs.WellKinded.{IsWellKinded}
+use Rattle.sl_code_semantics.specs.declared.fault.VerifyFault.{VerifyFault}
+use Rattle.sl_code_semantics.specs.Faults.{verify_fault}
+use Rattle.sl_code_semantics.specs.WellKinded.{IsWellKinded}
 use Rattle.sl_count_inputs.specs.declared.limits.TheConstants.{MAX_CODE_BYTES}
 use Rattle.sl_count_code_files.specs.declared.refusal.CodeRefusal.{CodeRefusal}
 use Rattle.sl_count_code_files.specs.declared.refusal.CodeRefusal.TheVariants as code

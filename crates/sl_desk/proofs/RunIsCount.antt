@@ -33,7 +33,7 @@ use Rattle.sl_count_code_files.specs.CodeFiles.{IsCodeVerdict, code_line}
 use Rattle.sl_desk.specs.Running.{IsCodeOutput, IsRun, IsRunCode}
 use Rattle.sl_count_texts.specs.Faults.{fault_text}
 use Rattle.sl_count_texts.specs.Short.{short_text}
-use Rattle.sl_verify.specs.WellKinded.{IsWellKinded}
+use Rattle.sl_code_semantics.specs.WellKinded.{IsWellKinded}
 use Rattle.sl_count_inputs.specs.Returns.{IsReturnsVerdict, returns_line}
 use Rattle.sl_desk.proofs.CodeLengths.{file_fits}
 use Rattle.sl_desk.proofs.OneOutput.{one_returns_verdict}

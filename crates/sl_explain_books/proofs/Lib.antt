@@ -1,3 +1,4 @@
+pub mod Beginnings
 pub mod Characters
 pub mod Going
 pub mod LeftOut

@@ -8,6 +8,7 @@ mod contexts;
 mod going_on;
 pub mod limits;
 
+use crate::beginning::Sort;
 use crate::meant::{is_droop, keyword_of, method_of};
 use crate::near::help_nearest_or;
 use crate::pieces::{line_number, piece, span_within, token_span};
@@ -21,7 +22,7 @@ use going_on::{expected, listed, words};
 use limits::{explain_depth, explain_no_room, explain_stages};
 use sl_explain_texts::{Explanation, FaultCode, Language, Message, Span, Speaker};
 use sl_lex::{Keyword, Kind, Mark, Token};
-use sl_parse::{ParseFault, Sort};
+use sl_parse::ParseFault;
 use sl_ratio::NoMemory;
 use std::alloc::Global;
 

@@ -7,9 +7,11 @@
 //! Where an error is `NoMemory` alone, memory ran out, and nothing else is wrong.
 #![tactic(auto)]
 
+mod beginning;
 mod clause;
 mod further;
 mod grammar;
+mod keywords;
 mod left_out;
 mod meant;
 mod near;

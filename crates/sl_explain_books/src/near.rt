@@ -2,8 +2,8 @@
 
 ghost use Rattle.std.specs.Prelude.{◌≡◌};
 
+use crate::keywords::fact_keyword;
 use sl_explain_texts::{Explanation, Message, Speaker};
-use sl_parse::fact_keyword;
 use sl_ratio::NoMemory;
 use sl_stages::{FACTS, Stage};
 use std::alloc::Global;

@@ -7,8 +7,8 @@ use Rattle.sl_code.specs.declared.fault.CodeFault.TheVariants as files
 use Rattle.sl_stages.specs.declared.fault.FaultKind.{FaultKind}
 use Rattle.sl_stages.specs.declared.fault.FaultKind.TheVariants as legal
 use Rattle.sl_stages.specs.declared.fault.LegalFault.{LegalFault}
-use Rattle.sl_verify.specs.declared.fault.VerifyFault.{VerifyFault}
-use Rattle.sl_verify.specs.declared.fault.VerifyFault.TheVariants as kinds
+use Rattle.sl_code_semantics.specs.declared.fault.VerifyFault.{VerifyFault}
+use Rattle.sl_code_semantics.specs.declared.fault.VerifyFault.TheVariants as kinds
 
 abbrev pub kind_code : FaultKind → FaultCode
 kind_code legal.Limit = L01

@@ -9,11 +9,11 @@ use crate::texts::{
     ORDER, REGISTER, RETURNS, RUNS_OFF, SHORT_CODE, SLOT, TABLE, TRAILING, VERSION,
 };
 use sl_code::CodeFault;
+use sl_code_semantics::VerifyFault;
 use sl_explain_texts::{
     Explanation, FaultCode, Language, Message, Sentence, Span, Speaker, first_line,
 };
 use sl_ratio::NoMemory;
-use sl_verify::VerifyFault;
 use std::alloc::Global;
 
 // What is said of bytes that do not begin as a code file, and what to do.

@@ -1,12 +1,45 @@
-//! A record that is refused, with the text that it stands in.
+//! A record that is refused, with the text that it stands in, and a look at other records there.
 
 ghost use Rattle.std.specs.Prelude.{◌≡◌, IfOk, Some};
 
 use crate::texts::{CELL, CELLS};
+use csv::ByteRecord;
 use sl_explain_texts::{Explanation, FaultCode, Message, Span, Speaker, line_at};
 use sl_ratio::NoMemory;
-use sl_returns::{COLUMNS, Content, KIND, Kind, RecordAtFault, cell_place, find_record};
+use sl_returns::{COLUMNS, Content, KIND, Kind, cell, reader_of};
+use sl_returns_places::{RecordAtFault, cell_place};
 use sl_stages::Returns;
+use std::alloc::Global;
+
+// Whether a record has these cells, each by its column.
+fn has_cells(record: &ByteRecord, cells: &[(usize, &[u8])]) -> bool {
+    for (column, wanted) in cells {
+        if cell(record, *column) != *wanted {
+            return false;
+        }
+    }
+    true
+}
+
+/// The row of the first record that comes after a row and has these cells, each by its column.
+pub(crate) fn find_record(
+    alloc: Global,
+    bytes: &[u8],
+    after: u32,
+    cells: &[(usize, &[u8])],
+) -> Result<Option<u32>, NoMemory> {
+    let mut reader = reader_of(alloc, bytes);
+    let mut record = ByteRecord::new(alloc);
+    for row in 1..u32::MAX {
+        match reader.read_byte_record(&mut record) {
+            Ok(true) if row > after && has_cells(&record, cells) => return Ok(Some(row)),
+            Ok(true) => {}
+            Ok(false) => return Ok(None),
+            Err(_) => return Err(NoMemory),
+        }
+    }
+    Ok(None)
+}
 
 /// A refused record, the text that it stands in with the returns of all its records that were taken, and the person who is spoken to.
 #[derive(Clone, Copy)]

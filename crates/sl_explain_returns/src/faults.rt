@@ -18,6 +18,7 @@ use crate::unknown::{explain_unknown, known_name_at};
 use sl_explain_texts::{Explanation, FaultCode, Language, Speaker};
 use sl_ratio::NoMemory;
 use sl_returns::{FaultKind, RefusedReturns, ReturnsFault};
+use sl_returns_places::RecordAtFault;
 use std::alloc::Global;
 
 // The code of a fault of returns, if it is one.
@@ -151,7 +152,7 @@ pub fn explain_returns(
     let case = Case {
         speaker: Speaker { alloc, language },
         bytes,
-        refused: refused.first(),
+        refused: RecordAtFault::first_of(refused),
         taken: &refused.taken,
     };
     let mut explanation = explain_record(&case)?;

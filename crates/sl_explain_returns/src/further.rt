@@ -8,6 +8,7 @@ use crate::texts::{ALSO, LINE, MORE};
 use sl_explain_texts::{Explanation, line_at};
 use sl_ratio::NoMemory;
 use sl_returns::{RefusedRecord, RefusedReturns};
+use sl_returns_places::RecordAtFault;
 
 // The number of the line of which an explanation speaks.
 fn line_number(case: &Case<'_>, explanation: &Explanation) -> usize {
@@ -37,7 +38,7 @@ fn add_records(
 {
     for record in records {
         let here = Case {
-            refused: record.at_fault(),
+            refused: RecordAtFault::of(record),
             ..*case
         };
         add_record(&here, explanation)?;

@@ -1,8 +1,5 @@
 //! Tokens and their kinds.
 
-ghost use Rattle.std.specs.Prelude.{◌≡◌};
-ghost use Rattle.sl_lex.specs.Tokens.{sign};
-
 use crate::keyword::Keyword;
 
 /// A mark of one byte: `;` `=` `,` `(` `)`.
@@ -13,21 +10,6 @@ pub enum Mark {
     Comma,
     Open,
     Close,
-}
-
-impl Mark {
-    /// The byte that the mark is.
-    pub fn sign(self) -> &'static [u8]
-        ensures { result.now ≡ sign self }
-    {
-        match self {
-            Mark::Semicolon => b";",
-            Mark::Equals => b"=",
-            Mark::Comma => b",",
-            Mark::Open => b"(",
-            Mark::Close => b")",
-        }
-    }
 }
 
 /// What a token is. A name is a word that is no keyword; a text stands between two quotes.

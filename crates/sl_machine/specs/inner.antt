@@ -1,13 +1,4 @@
--- What bodies and proofs alone cite: how the machine's values stand for those of the definitions.
-pub mod Stores
-pub mod Columns
-pub mod Positions
-pub mod CellCursors
-pub mod Recording
-pub mod Memories
-pub mod Leaving
-pub mod Lots
-pub mod Tables
+-- What bodies and proofs alone cite: a run on its way through a code.
 pub mod Ways
 pub mod Leading
 pub mod UnderWay

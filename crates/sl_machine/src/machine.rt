@@ -9,22 +9,19 @@ ghost use Rattle.sl_machine.specs.Answers.{answer_of};
 ghost use Rattle.sl_machine.specs.Fits.{Fits};
 ghost use Rattle.sl_machine.specs.inner.Leading.{EndsAt, EndsWith, ending_with, FitsWith};
 ghost use Rattle.sl_machine.specs.inner.UnderWay.{IsUnderWay, GoesOn, IsOut, EndsFirst};
-ghost use Rattle.sl_machine.specs.inner.Recording.{state_by, ending_by};
+ghost use Rattle.sl_code_steps.specs.inner.Recording.{state_by, ending_by};
 ghost use Rattle.sl_code_semantics.specs.Runs.{run, ending, share_of, budget_of};
 ghost use Rattle.sl_code_semantics.specs.Unrecorded.{without_records};
-ghost use Rattle.sl_machine.specs.inner.Stores.{state_of, sizes_of, sizes_for};
+ghost use Rattle.sl_code_steps.specs.inner.Stores.{state_of, sizes_of, sizes_for};
 ghost use Rattle.sl_machine.specs.inner.Ways.{IsWay};
 
 use crate::clock::Clock;
-use crate::memory::Memory;
-use crate::step::{Drops, Effect, End, Keeps, Recording};
-use crate::store::Store;
 use crate::way::{Standing, Way, first_of};
 use sl_code_instructions::{Code, Instr};
-use sl_code_semantics::STEPS_EACH;
+use sl_code_semantics::{STEPS_EACH, Verified};
+use sl_code_steps::{Drops, Effect, End, Keeps, Memory, Recording, Store};
 use sl_ratio::NoMemory;
 use sl_stages::{LegalFault, MAX_SEATS, Returns};
-use sl_verify::Verified;
 use std::alloc::Global;
 
 /// How a run ends.

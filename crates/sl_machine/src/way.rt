@@ -3,9 +3,8 @@
 ghost use Rattle.std.specs.Prelude.{◌≡◌, ◌<◌, ◌≤◌, ◌++◌, ◌∷◌, [], drop, length, IfOk, OnOk};
 ghost use Rattle.sl_machine.specs.inner.Ways.{is_idle, standing_from, IsWay};
 
-use crate::step::{Recording, Records};
-use crate::store::append;
 use sl_code_instructions::{Code, Instr};
+use sl_code_steps::{Recording, Records};
 use sl_ratio::NoMemory;
 use std::alloc::Global;
 
@@ -48,7 +47,7 @@ fn add<R: Recording>(
     ensures { OnOk result (standing.new.items ≡ standing.old.items ++ standing_from R.records place (instr ∷ [])) }
 {
     if !is_idle::<R>(&instr) {
-        append(standing, Standing { instr, place })?;
+        standing.push(Standing { instr, place })?;
     }
     Ok(())
 }
@@ -78,7 +77,7 @@ impl Way {
         let mut standing = Vec::with_capacity(alloc, instrs.len())?;
         let mut before = Vec::with_capacity(alloc, instrs.len())?;
         for (place, instr) in instrs.iter().enumerate() {
-            append(&mut before, standing.len())?;
+            before.push(standing.len())?;
             add::<R>(&mut standing, *instr, place)?;
         }
         Ok(Way { standing, before })

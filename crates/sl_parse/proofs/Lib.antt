@@ -15,5 +15,4 @@ pub mod OneTree
 pub mod Stands
 pub mod Loop
 mod SpanFacts
-pub mod Beginnings
 mod TokenNumbers

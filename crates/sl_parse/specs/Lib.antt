@@ -3,5 +3,4 @@ pub mod Words
 pub mod Grammar
 pub mod Faults
 pub mod Parsing
-pub mod Beginnings
 pub mod inner

@@ -8,8 +8,8 @@ use crate::token::Parser;
 use sl_lex::{Keyword, Kind, Mark};
 use sl_stages::Majority;
 
-/// The word that leaves seats empty which a list can't fill.
-pub(crate) const VACATE: &[u8] = b"vacate";
+// The word that leaves seats empty which a list can't fill.
+const VACATE: &[u8] = b"vacate";
 
 impl<'a> Parser<'a> {
     /// Whether a comma and then this keyword stand next.

@@ -10,7 +10,7 @@ use std::fmt;
 
 /// Why tokens are no book within the limits, with the offset in bytes at which it shows: that of a token, or the length of
 /// the text where tokens are missing.
-#[derive(Clone, Copy, PartialEq, Eq)]
+#[derive(Clone, Copy)]
 pub enum ParseFault {
     /// No book goes on like this.
     Expected(usize),

@@ -6,7 +6,6 @@
 //! Where an error is `NoMemory` alone, memory ran out, and nothing else is wrong.
 #![tactic(auto)]
 
-mod beginning;
 mod book;
 mod clause;
 mod expr;
@@ -18,7 +17,6 @@ mod parser;
 mod token;
 mod words;
 
-pub use beginning::{Sort, begins_book};
 pub use fault::{Cause, ParseFault};
-pub use parser::parse;
-pub use words::{axis_keyword, fact_keyword, keyword_method, method_keyword, pairing_keyword};
+pub use parser::{parse, parse_spans};
+pub use words::{keyword_method, method_keyword};

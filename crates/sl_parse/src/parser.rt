@@ -26,8 +26,8 @@ fn fault_at(cause: Cause, at: usize) -> ParseFault
     }
 }
 
-// The book that tokens are which stand in the text.
-pub(crate) fn parse_spans(alloc: Global, text: &[u8], tokens: &[Token]) -> Result<Book, ParseFault>
+/// The book that tokens are which stand anywhere in the text.
+pub fn parse_spans(alloc: Global, text: &[u8], tokens: &[Token]) -> Result<Book, ParseFault>
     requires { AreSpans text.now tokens.now }
     ensures found { IfOk result (λ b. IsBook text.now (book_of b) tokens.now [] × IsTrue (is_within_limits (book_of b).stages)) }
     // A tree within the limits is answered, unless memory runs out.

@@ -12,7 +12,7 @@ use Rattle.sl_stages.specs.declared.fault.Item.{Item}
 use Rattle.sl_stages.specs.declared.returns.Lot.{Lot}
 use Rattle.sl_stages.specs.meaning.Lots.{first_mentions, given_entry}
 use Rattle.sl_stages.specs.meaning.Scopes.{same_item}
-use Rattle.sl_report_results.proofs.Steps.{filter_next}
+use Rattle.sl_report_parties.proofs.Steps.{filter_next}
 use Rattle.sl_report_results.specs.inner.Drawn.{drawn_by, with_first}
 
 -- ---- numbers where they stand first

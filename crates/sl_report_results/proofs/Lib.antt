@@ -1,7 +1,3 @@
-pub mod Steps
-pub mod Short
-pub mod SeatSums
-pub mod Taking
 pub mod Named
 pub mod ValueSteps
 pub mod Typed
@@ -10,8 +6,5 @@ pub mod Fews
 pub mod OwnSteps
 pub mod ScopeSteps
 pub mod Before
-pub mod ContestSteps
-pub mod PressSteps
-pub mod LackingSteps
 pub mod Borders
 pub mod DrawnLots

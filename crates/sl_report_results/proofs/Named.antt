@@ -10,7 +10,7 @@ use Rattle.sl_stages.specs.declared.book.Stage.{Stage}
 use Rattle.sl_stages.specs.meaning.Columns.{NamedColumn, is_column_of}
 use Rattle.sl_stages.specs.declared.count.Column.{Column}
 use Rattle.sl_report_results.specs.Values.{named_columns}
-use Rattle.sl_report_results.proofs.Steps.{zip_at}
+use Rattle.sl_report_parties.proofs.Steps.{zip_at}
 
 module _ (name : List ℕ) (stages : List Stage) (earlier : List Column) (n : ℕ) (c : Column) where
   at : (s : Stage) (k : ℕ) → k < length stages → k < length earlier → slice_get (named_columns stages earlier) k ≡ Some (record { name = (get_or stages k s).name; values = (get_or earlier k c).cells.items })

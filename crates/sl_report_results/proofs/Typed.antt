@@ -4,7 +4,7 @@ use Rattle.std.specs.Prelude.{find}
 use Rattle.std.specs.List.{AllZip, list_any, All}
 use Rattle.std.specs.Str.{bytes_eq}
 use Rattle.sl_stages.specs.declared.count.Column.{Column}
-use Rattle.sl_report_results.specs.Sums.{capped}
+use Rattle.sl_report_parties.specs.Sums.{capped}
 use Rattle.sl_report_results.specs.Values.{IsValue, IsColumnOf, IsWellFormed, named_columns}
 use Rattle.sl_stages.specs.book.Trees.{BookTree, ExprTree}
 use Rattle.sl_stages.specs.book.Typing.{Column as TypedColumn, is_named, is_typed, type_of, type_or_one}

@@ -12,7 +12,7 @@ use Rattle.sl_ratio.specs.declared.method.Method.{Method}
 use Rattle.sl_ratio.specs.Quotient.{Quotient}
 use Rattle.sl_report_results.specs.Lots.{AreLots, lot_place}
 use Rattle.sl_report_results.specs.Places.{seats_of}
-use Rattle.sl_report_results.specs.Sums.{capped}
+use Rattle.sl_report_parties.specs.Sums.{capped}
 use Rattle.sl_report_results.specs.declared.columns.Distribution.{Distribution}
 use Rattle.sl_report_results.specs.declared.fraction.Fraction.{Fraction}
 use Rattle.sl_report_results.specs.declared.scopes.Entry.{Entry}

@@ -11,11 +11,11 @@ ghost use Rattle.sl_stages.specs.book.Typing.{is_named, shape_over, splits_in, t
 ghost use Rattle.sl_stages.specs.returns.Election.{lands_of, parties_of};
 ghost use Rattle.sl_stages.specs.returns.Facts.{lands, parties, list_cell};
 ghost use Rattle.sl_stages.specs.meaning.Columns.{is_column_of, sum_over, paired, pair_of};
-ghost use Rattle.sl_report_results.specs.Sums.{capped};
+ghost use Rattle.sl_report_parties.specs.Sums.{capped};
 ghost use Rattle.sl_report_results.specs.Values.{named_columns, types_before, HaveTypes, HasNoSplit, IsWellFormed, IsColumnOf, IsPlain, IsWith, IsDistributed};
 
-use crate::facts::Setting;
 use sl_ratio::{Method, NoMemory};
+use sl_report_parties::Setting;
 use sl_stages::{Axis, Column, Expr, Pairing, Returns, Stage, Word};
 use std::alloc::Global;
 

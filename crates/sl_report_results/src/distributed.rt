@@ -1,7 +1,7 @@
 //! The scopes of a stage of a count.
 
 ghost use Rattle.std.specs.Prelude.{◌≡◌, ◌<◌, ◌&&◌, not, IfOk, OnOk, get_or, length, is_some, sum_by};
-ghost use Rattle.sl_report_results.specs.Sums.{capped};
+ghost use Rattle.sl_report_parties.specs.Sums.{capped};
 ghost use Rattle.sl_stages.specs.meaning.Counts.{HoldsStages};
 ghost use Rattle.sl_ratio.specs.declared.method.Method.TheVariants as by;
 ghost use Rattle.sl_report_results.specs.Lots.{AreLots};
@@ -14,12 +14,12 @@ ghost use Rattle.sl_stages.specs.declared.book.Stage.{Stage};
 
 use crate::columns::{Distribution, distribution_of};
 use crate::drawing::stage_lot;
-use crate::facts::Setting;
 use crate::fraction::Fraction;
 use crate::margins::{Margins, margins_of};
 use crate::places::{items_in, scope_at, scope_count, steps_in};
 use crate::scopes::{Entry, Scoped, seats_in, shown_entries, weight_in, with_margins, with_quota};
 use sl_ratio::{Divisor, Method, NoMemory};
+use sl_report_parties::Setting;
 use sl_stages::{Counted, Scope, SeatStep, Stage};
 use std::alloc::Global;
 

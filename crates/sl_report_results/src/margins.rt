@@ -1,7 +1,7 @@
 //! The margins of an allocation, all at once.
 
 ghost use Rattle.std.specs.Prelude.{◌≡◌, ℕ, ◌<◌, ◌≤◌, ◌↔◌, None, All, IfOk, IsTrue, MatchOption, length, sum, sum_by, slice_index_or};
-ghost use Rattle.sl_report_results.specs.Sums.{capped};
+ghost use Rattle.sl_report_parties.specs.Sums.{capped};
 ghost use Rattle.sl_law_margins.specs.MissingVotes.{AreMissing, IsAllocation};
 ghost use Rattle.sl_report_results.specs.Lots.{AreLots};
 ghost use Rattle.sl_report_results.specs.Scopes.{AreLacking, AreMargins, IsAllocated, IsFew, held_of, weights_of};

@@ -9,8 +9,8 @@ ghost use Rattle.sl_stages.specs.returns.Election.{lands_of, parties_of};
 ghost use Rattle.sl_stages.specs.returns.Facts.{lands, parties};
 
 use crate::columns::number_at;
-use crate::votes::one_if;
 use sl_ratio::NoMemory;
+use sl_report_parties::one_if;
 use sl_stages::{Column, Item, Returns, Scope, SeatStep, Shape};
 use std::alloc::Global;
 

@@ -5,7 +5,7 @@ ghost use Rattle.std.specs.List.{zip};
 ghost use Rattle.sl_ratio.specs.declared.method.Method.TheVariants as by;
 ghost use Rattle.sl_report_results.specs.Places.{items_in};
 ghost use Rattle.sl_report_results.specs.Scopes.{entry_of, is_shown, quota_entry, shown_entries, with_margins};
-ghost use Rattle.sl_report_results.specs.Sums.{capped};
+ghost use Rattle.sl_report_parties.specs.Sums.{capped};
 
 use crate::columns::Distribution;
 use crate::drawing::lot_place;

@@ -12,7 +12,7 @@ use Rattle.std.proofs.lemmas.Option.{get_or_from_slice_get, slice_get_within}
 use Rattle.std.proofs.lemmas.List.Splits.{length-slice_split, slice_split_first, slice_split_none}
 use Rattle.std.proofs.lemmas.List.Sums.{fails_before_first}
 use Rattle.sl_report_tables.specs.Earlier.{is_line, is_table, table_parties, told_party, words}
-use Rattle.sl_report_results.proofs.Steps.{any_is}
+use Rattle.sl_report_parties.proofs.Steps.{any_is}
 
 pub one_word : (line : List ℕ) → position_or_len (λ b. nat_eq b 32) line ≡ length line → words line ≡ line ∷ []
 one_word line none =

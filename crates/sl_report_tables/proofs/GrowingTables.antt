@@ -6,7 +6,7 @@ use Rattle.std.specs.List.{AllZip, range_with_len}
 use Rattle.std.specs.Prelude.{slice_get}
 use Rattle.sl_report_forms.specs.Cells.{Content}
 use Rattle.sl_report_forms.specs.Tables.{Table, with_rows}
-use Rattle.sl_report_results.proofs.Steps.{range_more}
+use Rattle.sl_report_parties.proofs.Steps.{range_more}
 use Rattle.sl_stages.proofs.meaning.Members.{all_and_one}
 
 module _ {X : Type 0} (P : X → List Content → Type 0) where

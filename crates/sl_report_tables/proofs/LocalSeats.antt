@@ -6,7 +6,7 @@ use Rattle.std.proofs.lemmas.Bool.{cases_Bool}
 use Rattle.std.proofs.lemmas.List.Sums.{sum_by-cons}
 use Rattle.std.proofs.lemmas.Simd.{map-map}
 use Rattle.sl_report_forms.specs.Cells.{a_number}
-use Rattle.sl_report_results.specs.Sums.{capped}
+use Rattle.sl_report_parties.specs.Sums.{capped}
 use Rattle.sl_report_tables.specs.Compare.{list_seats, number_or_fault, seats_at}
 use Rattle.sl_report_tables.specs.declared.compare.Judged.{Judged}
 use Rattle.sl_report_tables.specs.declared.local.Local.{Local}

@@ -9,7 +9,7 @@ use Rattle.std.specs.List.{flat_map, range_with_len, zip}
 use Rattle.std.specs.Prelude.{if◌then◌else◌, min, slice_get}
 use Rattle.sl_report_forms.specs.Cells.{Content}
 use Rattle.sl_report_forms.specs.Tables.{Table, with_rows}
-use Rattle.sl_report_results.proofs.Steps.{filtered_more, kept_more, map_next, mapped_more, pieces_more}
+use Rattle.sl_report_parties.proofs.Steps.{filtered_more, kept_more, map_next, mapped_more, pieces_more}
 
 -- the pieces of one element more, after others
 pub pieces_next : {X Y : Type 0} (f : X → List Y) (xs : List X) (i : ℕ) (x : X) (front ys zs : List Y) → slice_get xs i ≡ Some x →

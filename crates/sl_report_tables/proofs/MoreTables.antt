@@ -8,7 +8,7 @@ use Rattle.std.specs.Prelude.{IfOk, Ok, Result, option_map, slice_get}
 use Rattle.sl_ratio.specs.declared.no_memory.NoMemory.{NoMemory}
 use Rattle.sl_report_forms.specs.Tables.{Table, table_of}
 use Rattle.sl_report_forms.specs.declared.sheet.Sheet.{Sheet}
-use Rattle.sl_report_results.proofs.Steps.{map_next, range_more}
+use Rattle.sl_report_parties.proofs.Steps.{map_next, range_more}
 use Rattle.sl_stages.proofs.meaning.Members.{all_and_one}
 
 -- a sheet of that table more

@@ -1,10 +1,10 @@
 -- The rows of what parties have and lack.
 use Rattle.std.proofs.Common.{◌≡◌, ◌∙◌, ℕ, List, [], ◌∷◌, ◌++◌, Option, ap, subst}
 use Rattle.sl_report_forms.specs.Cells.{a_number, known}
-use Rattle.sl_report_results.specs.Lacking.{AreVotesFor, AreWinnersFor, Lacks}
-use Rattle.sl_report_results.specs.Parts.{part_of}
-use Rattle.sl_report_results.specs.Sums.{lists_of}
-use Rattle.sl_report_results.specs.declared.parts.PartyPart.{PartyPart}
+use Rattle.sl_report_parties.specs.Lacking.{AreVotesFor, AreWinnersFor, Lacks}
+use Rattle.sl_report_parties.specs.Parts.{part_of}
+use Rattle.sl_report_parties.specs.Sums.{lists_of}
+use Rattle.sl_report_parties.specs.declared.parts.PartyPart.{PartyPart}
 use Rattle.sl_report_tables.specs.Parts.{a_name, condition_cell, percent_cells}
 use Rattle.sl_report_tables.specs.Totals.{IsVotesRow, votes_row}
 use Rattle.sl_stages.specs.declared.book.Cond.{Cond}

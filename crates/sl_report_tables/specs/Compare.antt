@@ -3,8 +3,8 @@ use Rattle.std.specs.List.{AllZip, flat_map, list_any}
 use Rattle.std.specs.Prelude.{◌≡◌, ℕ, ◌-◌, Bool, ◌&&◌, List, [], ◌∷◌, ◌++◌, Option, Some, None, codes, count_by, drop, filter, if◌then◌else◌, map, nat_eq, nat_lt, option_map, string_bytes, sum_by, unwrap_or}
 use Rattle.sl_report_forms.specs.Cells.{Content, a_change, a_number, a_text, known, nothing}
 use Rattle.sl_report_forms.specs.Tables.{Table}
-use Rattle.sl_report_results.specs.Seats.{all_seats, is_open, party_seats}
-use Rattle.sl_report_results.specs.Sums.{capped}
+use Rattle.sl_report_parties.specs.Seats.{all_seats, is_open, party_seats}
+use Rattle.sl_report_parties.specs.Sums.{capped}
 use Rattle.sl_report_tables.specs.Parties.{house_of}
 use Rattle.sl_report_tables.specs.Parts.{a_name}
 use Rattle.sl_report_tables.specs.declared.compare.Judged.{Judged}

@@ -6,7 +6,7 @@ use Rattle.std.specs.Str.Lines.{lines}
 use Rattle.std.specs.Str.{bytes_eq, is_utf8}
 use Rattle.sl_count_inputs.specs.declared.input.Bytes.TheVariants.{TooLong, Whole}
 use Rattle.sl_count_inputs.specs.declared.input.Bytes.{Bytes}
-use Rattle.sl_report_results.specs.declared.earlier.EarlierParty.{EarlierParty}
+use Rattle.sl_report_parties.specs.declared.earlier.EarlierParty.{EarlierParty}
 use Rattle.sl_returns.specs.Cells.{is_number, number_of}
 
 -- ---- its text

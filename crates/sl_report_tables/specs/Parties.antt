@@ -3,11 +3,11 @@ use Rattle.std.specs.List.{position, zip}
 use Rattle.std.specs.Prelude.{◌≡◌, ℕ, Bool, true, false, ◌&&◌, ◌||◌, List, [], ◌∷◌, ◌++◌, Option, Some, None, codes, filter, map, nat_lt, option_map, unwrap_or}
 use Rattle.sl_report_forms.specs.Cells.{Content, a_flag, a_number, a_text, nothing}
 use Rattle.sl_report_forms.specs.Tables.{Table}
-use Rattle.sl_report_results.specs.Parts.{votes_of}
-use Rattle.sl_report_results.specs.Ranks.{AreContested}
-use Rattle.sl_report_results.specs.Seats.{all_seats, is_open, is_single, party_seats}
-use Rattle.sl_report_results.specs.declared.contests.Ranked.{Ranked}
-use Rattle.sl_report_results.specs.declared.seats.Seats.{Seats}
+use Rattle.sl_report_parties.specs.Parts.{votes_of}
+use Rattle.sl_report_parties.specs.Ranks.{AreContested}
+use Rattle.sl_report_parties.specs.Seats.{all_seats, is_open, is_single, party_seats}
+use Rattle.sl_report_parties.specs.declared.contests.Ranked.{Ranked}
+use Rattle.sl_report_parties.specs.declared.seats.Seats.{Seats}
 use Rattle.sl_report_tables.specs.Parts.{a_name, condition_cell, percent_cells}
 use Rattle.sl_stages.specs.declared.book.Book.{Book}
 use Rattle.sl_stages.specs.declared.book.Cond.{Cond}

@@ -3,13 +3,13 @@ use Rattle.std.specs.List.{AllZip}
 use Rattle.std.specs.Prelude.{◌≡◌, ℕ, Bool, true, false, List, [], ◌∷◌, ◌++◌, Option, None, Some, codes, filter, length, map, option_map, take}
 use Rattle.sl_report_forms.specs.Cells.{Content, a_change, a_number, a_text, known, nothing}
 use Rattle.sl_report_forms.specs.Tables.{Table}
-use Rattle.sl_report_results.specs.Earlier.{all_before, is_gone}
-use Rattle.sl_report_results.specs.Lacking.{AreVotesFor, AreWinnersFor, Lacks}
-use Rattle.sl_report_results.specs.Press.{AreLeftOut}
-use Rattle.sl_report_results.specs.Seats.{all_seats}
-use Rattle.sl_report_results.specs.declared.earlier.EarlierParty.{EarlierParty}
-use Rattle.sl_report_results.specs.declared.press.Pressed.{Pressed}
-use Rattle.sl_report_results.specs.declared.press.Standing.{Standing}
+use Rattle.sl_report_parties.specs.Earlier.{all_before, is_gone}
+use Rattle.sl_report_parties.specs.Lacking.{AreVotesFor, AreWinnersFor, Lacks}
+use Rattle.sl_report_parties.specs.Press.{AreLeftOut}
+use Rattle.sl_report_parties.specs.Seats.{all_seats}
+use Rattle.sl_report_parties.specs.declared.earlier.EarlierParty.{EarlierParty}
+use Rattle.sl_report_parties.specs.declared.press.Pressed.{Pressed}
+use Rattle.sl_report_parties.specs.declared.press.Standing.{Standing}
 use Rattle.sl_report_results.specs.declared.scopes.Scoped.{Scoped}
 use Rattle.sl_report_tables.specs.Parts.{a_name, rounded_cell}
 use Rattle.sl_stages.specs.declared.book.Cond.{Cond}

@@ -4,10 +4,10 @@ use Rattle.std.specs.List.{AllZip, range_with_len}
 use Rattle.std.specs.Prelude.{◌≡◌, ℕ, List, [], ◌∷◌, ◌++◌, Option, None, Some, filter, flat_map, get_or, length, option_map}
 use Rattle.sl_report_forms.specs.Tables.{Table}
 use Rattle.sl_report_results.specs.StageScopes.{AreStageScopes}
-use Rattle.sl_report_results.specs.Press.{ArePressed}
-use Rattle.sl_report_results.specs.declared.earlier.EarlierParty.{EarlierParty}
-use Rattle.sl_report_results.specs.declared.press.Pressed.{Pressed}
-use Rattle.sl_report_results.specs.declared.contests.Ranked.{Ranked}
+use Rattle.sl_report_parties.specs.Press.{ArePressed}
+use Rattle.sl_report_parties.specs.declared.earlier.EarlierParty.{EarlierParty}
+use Rattle.sl_report_parties.specs.declared.press.Pressed.{Pressed}
+use Rattle.sl_report_parties.specs.declared.contests.Ranked.{Ranked}
 use Rattle.sl_report_results.specs.declared.scopes.Scoped.{Scoped}
 use Rattle.sl_report_tables.specs.Faults.{AreFaultTables}
 use Rattle.sl_report_tables.specs.Parties.{AreCovered, covering_table, house_of, law_table, lists_table, open_table, parties_table, singles_table}

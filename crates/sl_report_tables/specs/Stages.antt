@@ -5,7 +5,7 @@ use Rattle.sl_base_terms.specs.declared.shape.Shape.TheVariants as shape
 use Rattle.sl_base_terms.specs.declared.shape.Shape.{Shape}
 use Rattle.sl_report_forms.specs.Cells.{Content, a_number, a_text}
 use Rattle.sl_report_forms.specs.Tables.{Table}
-use Rattle.sl_report_results.specs.Sums.{capped}
+use Rattle.sl_report_parties.specs.Sums.{capped}
 use Rattle.sl_report_tables.specs.Parts.{a_name}
 use Rattle.sl_stages.specs.declared.count.Column.{Column}
 use Rattle.sl_stages.specs.declared.fault.Item.{Item}

@@ -3,11 +3,11 @@ use Rattle.std.specs.List.{AllZip}
 use Rattle.std.specs.Prelude.{◌≡◌, ℕ, List, [], ◌∷◌, ◌++◌, Option, None, Some, codes, count_by, filter, flat_map, length, map, nat_lt, option_map, slice_index, sum_by}
 use Rattle.sl_report_forms.specs.Cells.{Content, a_number, a_text, known}
 use Rattle.sl_report_forms.specs.Tables.{Table}
-use Rattle.sl_report_results.specs.Cells.{is_won}
-use Rattle.sl_report_results.specs.Lacking.{AreVotesFor, AreWinnersFor, Lacks}
-use Rattle.sl_report_results.specs.Parts.{part_of}
-use Rattle.sl_report_results.specs.Sums.{capped, is_alone_in, is_with, land_sum, lists_of, sum_in_all}
-use Rattle.sl_report_results.specs.declared.parts.PartyPart.{PartyPart}
+use Rattle.sl_report_parties.specs.Cells.{is_won}
+use Rattle.sl_report_parties.specs.Lacking.{AreVotesFor, AreWinnersFor, Lacks}
+use Rattle.sl_report_parties.specs.Parts.{part_of}
+use Rattle.sl_report_parties.specs.Sums.{capped, is_alone_in, is_with, land_sum, lists_of, sum_in_all}
+use Rattle.sl_report_parties.specs.declared.parts.PartyPart.{PartyPart}
 use Rattle.sl_report_tables.specs.Parts.{a_name, condition_cell, percent_cells}
 use Rattle.sl_report_warnings.specs.Warnings.{warnings_of}
 use Rattle.sl_report_warnings.specs.declared.warning.Warning.{Warning}

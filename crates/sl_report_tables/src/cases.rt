@@ -10,7 +10,7 @@ use crate::earlier::earlier_parties;
 use crate::full_names::FullNames;
 use sl_count_inputs::Bytes;
 use sl_ratio::NoMemory;
-use sl_report_results::EarlierParty;
+use sl_report_parties::EarlierParty;
 use std::alloc::Global;
 
 /// Bytes of a file of names.

@@ -15,7 +15,8 @@ use crate::stages::stage_number;
 use crate::texts::{ALL, COMPARED_TITLE, ColumnHead, RULEBOOKS_TITLE};
 use sl_ratio::NoMemory;
 use sl_report_forms::{Head, Look, Row, Sheet};
-use sl_report_results::{Column, Counted, house_of, open_winners, seats_in_all, seats_of};
+use sl_report_parties::{house_of, open_winners, seats_in_all, seats_of};
+use sl_report_results::{Column, Counted};
 use sl_stages::{Book, CheckedBook, LegalFault, Returns};
 use std::alloc::Global;
 

@@ -2,8 +2,8 @@
 
 ghost use Rattle.std.specs.Prelude.{◌≡◌, ◌++◌, IfOk, List, OnOk, map, option_map};
 ghost use Rattle.sl_report_forms.specs.Tables.{table_of};
-ghost use Rattle.sl_report_results.specs.Seats.{all_seats};
-ghost use Rattle.sl_report_results.specs.declared.contests.Ranked.{Ranked};
+ghost use Rattle.sl_report_parties.specs.Seats.{all_seats};
+ghost use Rattle.sl_report_parties.specs.declared.contests.Ranked.{Ranked};
 ghost use Rattle.sl_report_tables.specs.Parties.{AreCovered, house_of, law_table};
 ghost use Rattle.sl_report_tables.specs.Reports.{AddsCounted, AreAllScopes, IsCountReport, first_tables, winner_tables};
 ghost use Rattle.sl_report_tables.specs.Scopes.{scope_tables};
@@ -18,7 +18,8 @@ use crate::scopes::{entries_sheet, scopes_sheet};
 use crate::texts::{ColumnHead, LAW_TITLE};
 use sl_ratio::NoMemory;
 use sl_report_forms::{Look, Sheet};
-use sl_report_results::{Counted, Scoped, Seats, Setting, seats_in_all, stage_scopes};
+use sl_report_parties::{Seats, Setting, seats_in_all};
+use sl_report_results::{Counted, Scoped, stage_scopes};
 use sl_stages::{Book, Table};
 use std::alloc::Global;
 

@@ -16,7 +16,7 @@ use crate::stages::stage_sheets;
 use sl_explain_texts::Language;
 use sl_ratio::NoMemory;
 use sl_report_forms::Sheet;
-use sl_report_results::{EarlierParty, Setting, parts_of};
+use sl_report_parties::{EarlierParty, Setting, parts_of};
 use sl_stages::{CheckedBook, End, LegalFault, Returns};
 use std::alloc::Global;
 

@@ -2,7 +2,7 @@
 
 ghost use Rattle.std.specs.Prelude.{◌≡◌, ◌∷◌, [], IfOk, List, OnOk};
 ghost use Rattle.sl_report_forms.specs.Tables.{table_of, with_rows};
-ghost use Rattle.sl_report_results.specs.declared.contests.Ranked.{Ranked};
+ghost use Rattle.sl_report_parties.specs.declared.contests.Ranked.{Ranked};
 ghost use Rattle.sl_report_tables.specs.Parties.{AreCovered, covering_table, ranked_row};
 
 use crate::naming::Naming;
@@ -10,7 +10,7 @@ use crate::rows::{Form, Part, push_row, titled};
 use crate::texts::{COVERED_TITLE, ColumnHead};
 use sl_ratio::NoMemory;
 use sl_report_forms::{Look, Sheet};
-use sl_report_results::{Ranked, Setting, contested};
+use sl_report_parties::{Ranked, Setting, contested};
 use sl_stages::{Seating, Table};
 use std::alloc::Global;
 

@@ -5,7 +5,7 @@ ghost use Rattle.std.specs.Prelude.{◌&&◌, ◌++◌, ◌∷◌, [], ◌≡◌
 ghost use Rattle.sl_report_tables.specs.Earlier.{is_line, is_other, is_table, party_told, table_parties, told_party, words};
 
 use sl_ratio::NoMemory;
-use sl_report_results::EarlierParty;
+use sl_report_parties::EarlierParty;
 use sl_returns::spelled_number;
 use std::alloc::Global;
 

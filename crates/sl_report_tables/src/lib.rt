@@ -1,8 +1,8 @@
 //! The tables of reports, and what the commands that report answer: sheets of one count, of the totals of returns with their warnings, of all stages,
 //! and of several rulebooks side by side; the names and words in them; and answers, which are sheets in one of five forms with a status.
 //!
-//! Stands on `sl_count_inputs`, `sl_report_warnings`, `sl_report_forms` and `sl_explain_faults`; used by the room report. Proved: the status of an
-//! answer, which tables it has, and what stands in the cells of each.
+//! Stands on `sl_count_inputs`, `sl_report_warnings`, `sl_report_forms`, `sl_report_results` and `sl_explain_faults`; used by the room report. Proved:
+//! the status of an answer, which tables it has, and what stands in the cells of each.
 //!
 //! Where an error is `NoMemory` alone, memory ran out, and nothing else is wrong.
 #![tactic(auto)]
@@ -39,6 +39,6 @@ pub use compare::Judged;
 pub use comparison::comparison_answer;
 pub use counts::{Show, count_answer};
 pub use full_names::FullNames;
-pub use sl_report_results::EarlierParty;
+pub use sl_report_parties::EarlierParty;
 pub use sums::totals_answer;
 pub use words::{method_of, method_word};

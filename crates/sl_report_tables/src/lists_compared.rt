@@ -4,7 +4,7 @@ ghost use Rattle.std.specs.List.{list_any};
 ghost use Rattle.std.specs.Prelude.{◌≡◌, ◌<◌, ◌++◌, ◌∷◌, [], IfOk, OnOk, if◌then◌else◌, map, sum_by};
 ghost use Rattle.sl_report_forms.specs.Tables.{contents_of, table_of, with_rows};
 ghost use Rattle.sl_report_tables.specs.Compare.{gives_seats, has_seats, list_seats_cell, list_seats_row, list_seats_rows, list_seats_table, seats_at};
-ghost use Rattle.sl_report_results.specs.Sums.{capped};
+ghost use Rattle.sl_report_parties.specs.Sums.{capped};
 ghost use Rattle.sl_report_tables.specs.Parts.{cells_of};
 ghost use Rattle.sl_report_tables.specs.inner.Seen.{seen, with_land};
 ghost use Rattle.sl_stages.specs.returns.Election.{lands_of, parties_of};

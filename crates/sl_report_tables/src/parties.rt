@@ -2,7 +2,7 @@
 
 ghost use Rattle.std.specs.Prelude.{◌≡◌, ◌<◌, ◌∷◌, [], IfOk, OnOk, Some, flat_map, if◌then◌else◌, length, option_map, slice_get};
 ghost use Rattle.sl_report_forms.specs.Tables.{table_of, with_rows};
-ghost use Rattle.sl_report_results.specs.Seats.{party_seats};
+ghost use Rattle.sl_report_parties.specs.Seats.{party_seats};
 ghost use Rattle.sl_report_tables.specs.Parties.{has_place, is_shown_list, list_row, lists_table, open_table, parties_table, party_cells, party_row, placed_table, seat_cells, singles_table, winner_row};
 ghost use Rattle.sl_report_tables.specs.Parts.{cells_of};
 ghost use Rattle.sl_stages.specs.returns.Election.{parties_of};
@@ -14,7 +14,7 @@ use crate::texts::{ColumnHead, LISTS_TITLE, NO_PARTY, OPEN_TITLE, PARTIES_TITLE,
 use sl_explain_texts::Message;
 use sl_ratio::NoMemory;
 use sl_report_forms::{Look, Sheet};
-use sl_report_results::{Seats, Setting, all_votes, seats_of};
+use sl_report_parties::{Seats, Setting, all_votes, seats_of};
 use sl_stages::{ListSeats, Placed, Returns, Table, Win};
 use std::alloc::Global;
 

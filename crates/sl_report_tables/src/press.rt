@@ -5,9 +5,9 @@ ghost use Rattle.std.specs.List.{AllZip};
 ghost use Rattle.std.specs.Prelude.{◌≡◌, ◌∷◌, [], IfOk, List, OnOk, filter, flat_map, if◌then◌else◌, map, option_map, take};
 ghost use Rattle.sl_report_forms.specs.Cells.{Content};
 ghost use Rattle.sl_report_forms.specs.Tables.{table_of, with_rows};
-ghost use Rattle.sl_report_results.specs.Earlier.{all_before};
-ghost use Rattle.sl_report_results.specs.Press.{ArePressed};
-ghost use Rattle.sl_report_results.specs.declared.press.Pressed.{Pressed};
+ghost use Rattle.sl_report_parties.specs.Earlier.{all_before};
+ghost use Rattle.sl_report_parties.specs.Press.{ArePressed};
+ghost use Rattle.sl_report_parties.specs.declared.press.Pressed.{Pressed};
 ghost use Rattle.sl_report_tables.specs.Press.{IsLackingRow, IsLackingTable, before_cells, gone_row, gone_rows, is_whole, press_row, press_table, sum_row};
 ghost use Rattle.sl_report_tables.specs.Parts.{cells_of};
 ghost use Rattle.sl_report_tables.specs.Reports.{IsPressReport};
@@ -23,10 +23,11 @@ use crate::scopes::{SCOPES, push_scope};
 use crate::texts::{ALL, ColumnHead, LAST_SEATS_TITLE, LEFT_OUT_TITLE, PRESS_TITLE};
 use sl_ratio::NoMemory;
 use sl_report_forms::{Look, Sheet};
-use sl_report_results::{
-    Counted, EarlierParty, Pressed, Scoped, Setting, Standing, all_before, all_votes, by_seats,
-    gone, lacking_votes, lacking_winners, left_out, seats_in_all,
+use sl_report_parties::{
+    EarlierParty, Pressed, Setting, Standing, all_before, all_votes, by_seats, gone, lacking_votes,
+    lacking_winners, left_out, seats_in_all,
 };
+use sl_report_results::{Counted, Scoped};
 use sl_stages::{Book, Cond, Scope, Table};
 use std::alloc::Global;
 

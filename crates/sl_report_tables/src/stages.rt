@@ -13,7 +13,8 @@ use crate::words::{shape_word, unit_word};
 use sl_check::types_of;
 use sl_ratio::NoMemory;
 use sl_report_forms::{Look, Sheet};
-use sl_report_results::{Column, Counted, Setting, entries_of, number_of, sum_of};
+use sl_report_parties::Setting;
+use sl_report_results::{Column, Counted, entries_of, number_of, sum_of};
 use sl_stages::{Book, ColumnType, Item, Scope, Shape, Unit};
 use std::alloc::Global;
 

@@ -3,7 +3,7 @@
 ghost use Rattle.std.specs.Prelude.{◌≡◌, ◌<◌, ◌∷◌, [], IfOk, List, OnOk, if◌then◌else◌, map, nat_lt, option_map};
 ghost use Rattle.sl_report_forms.specs.Cells.{Content};
 ghost use Rattle.sl_report_forms.specs.Tables.{table_of, with_rows};
-ghost use Rattle.sl_report_results.specs.Parts.{part_of};
+ghost use Rattle.sl_report_parties.specs.Parts.{part_of};
 ghost use Rattle.sl_report_tables.specs.Totals.{AreTotals, IsVotesRow, IsVotesTable, conditions_of, land_row, lands_table, totals_table, winners_table, won_at, won_row, won_rows};
 ghost use Rattle.sl_stages.specs.returns.Election.{lands_of, parties_of};
 ghost use Rattle.sl_stages.specs.returns.Facts.{all_valid_votes};
@@ -14,7 +14,7 @@ use crate::texts::{ColumnHead, LANDS_TITLE, PARTIES_TITLE, TOTALS_TITLE, WINNERS
 use crate::warnings::warnings_sheet;
 use sl_ratio::NoMemory;
 use sl_report_forms::{Look, Sheet};
-use sl_report_results::{
+use sl_report_parties::{
     all_lists, all_people, all_votes, independents_in, lacking_votes, lacking_winners, land_votes,
     lists_of, part_of, winners_at, winners_in, winners_of,
 };

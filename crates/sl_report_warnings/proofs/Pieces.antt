@@ -2,7 +2,7 @@
 use Rattle.std.proofs.Common.{List, Some, append_assoc, ap, refl, ◌++◌, ◌+◌, ◌≡◌, ◌∙◌, ℕ}
 use Rattle.std.specs.List.{flat_map, range_with_len}
 use Rattle.std.specs.Prelude.{slice_get}
-use Rattle.sl_report_results.proofs.Steps.{pieces_more}
+use Rattle.sl_report_parties.proofs.Steps.{pieces_more}
 use Rattle.sl_stages.specs.book.Trees.{BookTree}
 use Rattle.sl_stages.specs.declared.returns.Lot.{Lot}
 use Rattle.sl_stages.specs.returns.Election.{Election}

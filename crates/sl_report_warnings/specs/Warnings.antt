@@ -3,8 +3,8 @@ use Rattle.std.specs.List.{list_all, list_any, range_with_len}
 use Rattle.std.specs.Prelude.{Bool, List, None, Option, Some, [], codes, count_by, false, flat_map, if◌then◌else◌, is_some, length, nat_eq, nat_le, not, slice_get, slice_index, true, ◌&&◌, ◌++◌, ◌∷◌, ℕ}
 use Rattle.std.specs.Str.{bytes_eq, str_eq_ignore_ascii_case}
 use Rattle.sl_check.specs.Drawn.{given_shape}
-use Rattle.sl_report_results.specs.Cells.{is_won}
-use Rattle.sl_report_results.specs.Sums.{lists_of}
+use Rattle.sl_report_parties.specs.Cells.{is_won}
+use Rattle.sl_report_parties.specs.Sums.{lists_of}
 use Rattle.sl_stages.specs.book.Trees.{BookTree, StageTree}
 use Rattle.sl_stages.specs.book.Typing.{Column, columns_of}
 use Rattle.sl_stages.specs.declared.book.Cond.TheVariants as condition

@@ -21,6 +21,3 @@ pub mod Accepted
 pub mod AllRecords
 pub mod Reading
 pub mod ReadElections
-pub mod Scans
-pub mod Marks
-pub mod LocatedCells

@@ -6,6 +6,5 @@ pub mod Tests
 pub mod Records
 pub mod Returns
 pub mod Further
-pub mod Places
 pub mod Laws
 pub mod inner

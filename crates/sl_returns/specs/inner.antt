@@ -4,6 +4,5 @@ pub mod Building
 pub mod Indexed
 pub mod Joining
 pub mod Lots
-pub mod Scanning
 pub mod Sifting
 pub mod Texts

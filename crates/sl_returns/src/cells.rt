@@ -18,8 +18,8 @@ use sl_ratio::spelling_fault;
 /// The greatest number of digits in a number.
 pub const MAX_DIGITS: usize = 12;
 
-// The cell of a column, which is empty where the record has no such column.
-pub(crate) fn cell(fields: &ByteRecord, column: usize) -> &[u8]
+/// The cell of a column, which is empty where the record has no such column.
+pub fn cell(fields: &ByteRecord, column: usize) -> &[u8]
     ensures { result.now ≡ cell (fields_of fields.now) column }
 {
     match fields.get(column) {

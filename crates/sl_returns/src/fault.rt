@@ -23,7 +23,7 @@ pub enum FaultKind {
     Range,
     /// A name is not declared.
     Unknown,
-    /// it is given a second time.
+    /// It is given a second time.
     Twice,
     /// More votes are counted than are valid.
     Counted,
@@ -31,7 +31,7 @@ pub enum FaultKind {
     TooMany,
     /// There is no Land.
     NoLand,
-    /// Memory is wanting.
+    /// Out of memory.
     NoMemory,
 }
 

@@ -1,6 +1,6 @@
 //! The returns of an election, read from records of comma-separated cells.
 //!
-//! Stands on `sl_stages`; used by the rooms count and explain. Proved: the election that the records tell, or the first fault.
+//! Stands on `sl_stages`; used by the rooms returns and count. Proved: the election that the records tell, or the first fault.
 //!
 //! Where an error is `NoMemory` alone, memory ran out, and nothing else is wrong.
 #![tactic(auto)]
@@ -14,7 +14,6 @@ mod join;
 pub mod laws;
 mod lot;
 mod near;
-mod places;
 mod read;
 mod refused;
 mod schema;
@@ -22,11 +21,10 @@ mod sieve;
 mod told;
 
 pub use builder::ReturnsBuilder;
-pub use cells::{MAX_DIGITS, spelled_number};
+pub use cells::{MAX_DIGITS, cell, spelled_number};
 pub use fault::{FaultKind, RecordFault, ReturnsFault};
-pub use places::{Place, cell_place};
 pub use read::{read_or_refuse, read_returns, reader_of};
-pub use refused::{Before, MAX_FURTHER, RecordAtFault, RefusedRecord, RefusedReturns, find_record};
+pub use refused::{Before, MAX_FURTHER, RefusedRecord, RefusedReturns};
 pub use schema::{
     A, B, C, COLUMNS, Content, KIND, Kind, LAND, Named, PARTY, Quantity, column_name,
 };

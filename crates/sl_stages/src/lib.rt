@@ -1,6 +1,6 @@
 //! What a rulebook, returns and an outcome are, and what a rulebook means.
 //!
-//! Stands on `sl_base_terms`; used by the rooms law, book, returns and code. Proved: a rulebook means exactly one outcome on returns.
+//! Stands on `sl_base_terms`; used by the rooms law, book, returns, code and report. Proved: a rulebook means exactly one outcome on returns.
 #![tactic(auto)]
 
 mod book;

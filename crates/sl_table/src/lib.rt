@@ -1,6 +1,6 @@
 //! Seat tables and columns of stages from what a run holds, and the texts of both.
 //!
-//! Stands on `sl_count_texts` and `sl_machine`; used by the room count. Proved: the table is that of what the run holds.
+//! Stands on `sl_count_texts` and `sl_code_steps`; used by the room count. Proved: the table is that of what the run holds.
 //!
 //! Where an error is `NoMemory` alone, memory ran out, and nothing else is wrong.
 #![tactic(auto)]

@@ -11,8 +11,8 @@ ghost use Rattle.sl_table.specs.HeldStages.{stage_slot, held_stage_text};
 ghost use Rattle.sl_table.specs.Stages.{entry_line, party_entry, land_entry, land_lists, stage_text};
 
 use sl_code_instructions::Code;
+use sl_code_steps::Memory;
 use sl_count_texts::Text;
-use sl_machine::Memory;
 use sl_ratio::NoMemory;
 use sl_stages::{Returns, Shape};
 use std::alloc::Global;

@@ -10,7 +10,7 @@ ghost use Rattle.sl_table.specs.inner.Held.{FitsHeld};
 ghost use Rattle.sl_count_texts.specs.inner.Fits.{Fits};
 ghost use Rattle.sl_table.specs.inner.Places.{list_place};
 
-use sl_machine::Memory;
+use sl_code_steps::Memory;
 use sl_ratio::NoMemory;
 use sl_stages::{ListSeats, Placed, Returns, Table, Win};
 use std::alloc::Global;

@@ -1,7 +1,8 @@
 //! Cells of returns: where they stand in a text, and what those of a refused record hold. Rows show the places of some of them.
 
 use crate::assertions::assert_none;
-use sl_returns::{A, LAND, RefusedReturns, cell_place, read_or_refuse};
+use sl_returns::{A, LAND, RefusedReturns, read_or_refuse};
+use sl_returns_places::{RecordAtFault, cell_place};
 use std::alloc::Global;
 
 // The text of two records, a column of the second, and where its cell stands: its first byte, the byte after it, and whether a quote is open.
@@ -51,7 +52,7 @@ fn cells_have_places(rt: HostRuntime) {
 
 // Whether refused returns have the record of the second Land, and the first one before it.
 fn has_record(refused: &RefusedReturns) -> bool {
-    let first = refused.first();
+    let first = RecordAtFault::first_of(refused);
     first.cell(LAND) == b"Y".as_slice()
         && first.cell(A) == b"x".as_slice()
         && first.before.lands == 1

@@ -4,11 +4,11 @@ use crate::assertions::assert_none;
 use crate::codes::{compiled, ending};
 use crate::recorded::accepted;
 use crate::rows::{THREE_LISTS, TIED_RETURNS};
+use sl_code_semantics::Verified;
 use sl_machine::Ending;
 use sl_ratio::{Entry, NoMemory, Ratio};
 use sl_returns::read_returns;
 use sl_stages::{Item, Mark, SeatStep};
-use sl_verify::Verified;
 use std::alloc::{AllocError, Global};
 use std::fmt::Write;
 

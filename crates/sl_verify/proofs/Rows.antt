@@ -3,7 +3,7 @@ use Rattle.std.proofs.Common.{◌≡◌, Bool, true, false, ◌&&◌, List, [], 
 use Rattle.std.specs.List.{list_all, filter_map, cons_option}
 use Rattle.std.specs.Option.{option_map_or}
 use Rattle.std.proofs.Math.Bool.{and-true}
-use Rattle.sl_verify.specs.Needs.{all_hold}
+use Rattle.sl_code_semantics.specs.Needs.{all_hold}
 
 first_and_rest : (b : Bool) (bs : List Bool) → all_hold (b ∷ bs) ≡ (b && all_hold bs)
 first_and_rest b [] = sym (and-true b)

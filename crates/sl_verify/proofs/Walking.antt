@@ -6,11 +6,11 @@ use Rattle.std.specs.Option.{option_or}
 use Rattle.sl_code_instructions.specs.Codes.{CountingCode}
 use Rattle.sl_code_instructions.specs.declared.instr.Instr.{Instr}
 use Rattle.sl_code_instructions.specs.declared.kinds.Kinds.{Kinds}
-use Rattle.sl_verify.specs.declared.fault.VerifyFault.{VerifyFault}
-use Rattle.sl_verify.specs.Kinds.{start_kinds}
-use Rattle.sl_verify.specs.Pieces.{comes_next, comes_after}
+use Rattle.sl_code_semantics.specs.declared.fault.VerifyFault.{VerifyFault}
+use Rattle.sl_code_semantics.specs.Kinds.{start_kinds}
+use Rattle.sl_code_semantics.specs.Pieces.{comes_next, comes_after}
 use Rattle.sl_base_terms.specs.Tests.{first_failing}
-use Rattle.sl_verify.specs.Faults.{instr_tests, pass_tests}
+use Rattle.sl_code_semantics.specs.Faults.{instr_tests, pass_tests}
 use Rattle.sl_base_terms.proofs.Tests.{fails_in_row}
 
 -- the tests before place p hold, and these kinds reach it: the first test that fails is one of the rest

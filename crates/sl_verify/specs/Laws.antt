@@ -6,13 +6,13 @@ use Rattle.sl_code_instructions.specs.Codes.{CountingCode}
 use Rattle.sl_code_instructions.specs.Standing.{HasAt}
 use Rattle.sl_code_instructions.specs.declared.instr.Instr.{Instr}
 use Rattle.sl_code_instructions.specs.declared.kinds.Kinds.{Kinds}
-use Rattle.sl_verify.specs.declared.known.TheConstants.{REGISTERS}
-use Rattle.sl_verify.specs.declared.needs.TheConstants.{LAST_CLAUSE}
-use Rattle.sl_verify.specs.Kinds.{start_kinds, implies}
-use Rattle.sl_verify.specs.Needs.{Context}
-use Rattle.sl_verify.specs.WellKinded.{declared_by, context_of, has_stage_slots, IsWellKinded}
-use Rattle.sl_verify.specs.Pieces.{comes_after, are_passed, declared_in, piece_context, IsWithin}
-use Rattle.sl_verify.specs.Faults.{pass_tests}
+use Rattle.sl_code_semantics.specs.declared.known.TheConstants.{REGISTERS}
+use Rattle.sl_code_semantics.specs.declared.known.TheConstants.{LAST_CLAUSE}
+use Rattle.sl_code_semantics.specs.Kinds.{start_kinds, implies}
+use Rattle.sl_code_semantics.specs.Needs.{Context}
+use Rattle.sl_code_semantics.specs.WellKinded.{declared_by, context_of, has_stage_slots, IsWellKinded}
+use Rattle.sl_code_semantics.specs.Pieces.{comes_after, are_passed, declared_in, piece_context, IsWithin}
+use Rattle.sl_code_semantics.specs.Faults.{pass_tests}
 
 abbrev pub Limits : Type 0
 Limits = (REGISTERS ≡ 16) × (LAST_CLAUSE ≡ 255)

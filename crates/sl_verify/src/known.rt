@@ -1,42 +1,10 @@
 //! Operations on what is known at a place.
 
 ghost use Rattle.std.specs.Prelude.{◌≡◌, IsTrue};
-ghost use Rattle.sl_verify.specs.Kinds.{is_register, contains, with_register, includes, join, covers, same_entries, same_ranking, fits_table, implies};
+ghost use Rattle.sl_code_semantics.specs.Kinds.{is_register, contains, with_register, includes, covers, same_entries, same_ranking, fits_table, implies};
 
 use sl_code_instructions::{Cursors, Entries, Kinds, Ranking, Registers, TableState};
-
-/// Registers of the machine.
-pub const REGISTERS: u8 = 16;
-
-pub const NO_CURSORS: Cursors = Cursors {
-    party: false,
-    land: false,
-    win: false,
-};
-
-pub const PARTY_CURSOR: Cursors = Cursors {
-    party: true,
-    land: false,
-    win: false,
-};
-
-pub const LAND_CURSOR: Cursors = Cursors {
-    party: false,
-    land: true,
-    win: false,
-};
-
-pub const LIST_CURSORS: Cursors = Cursors {
-    party: true,
-    land: true,
-    win: false,
-};
-
-pub const WIN_CURSOR: Cursors = Cursors {
-    party: false,
-    land: false,
-    win: true,
-};
+use sl_code_semantics::{NO_CURSORS, REGISTERS};
 
 /// What is known at the start of a run.
 pub const START: Kinds = Kinds {
@@ -79,17 +47,6 @@ pub fn includes(have: Registers, need: Registers) -> bool
     ensures { result ≡ includes have need }
 {
     have.mask & need.mask == need.mask
-}
-
-/// The cursors of both sets.
-pub fn join(a: Cursors, b: Cursors) -> Cursors
-    ensures { result ≡ join a b }
-{
-    Cursors {
-        party: a.party || b.party,
-        land: a.land || b.land,
-        win: a.win || b.win,
-    }
 }
 
 /// Whether the first set has each cursor of the second.

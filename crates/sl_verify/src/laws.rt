@@ -3,9 +3,9 @@
 ghost use Rattle.std.specs.Prelude.{◌≡◌, ◌↔◌, ℕ, ◌<◌, ◌^◌, Bool, ◌==◌, if◌then◌else◌, IsTrue, None};
 ghost use Rattle.sl_code_instructions.specs.Codes.{CountingCode};
 ghost use Rattle.sl_code_instructions.specs.declared.kinds.Registers.{Registers};
-ghost use Rattle.sl_verify.specs.Kinds.{is_register, contains, with_register, includes};
-ghost use Rattle.sl_verify.specs.WellKinded.{IsWellKinded};
-ghost use Rattle.sl_verify.specs.Faults.{verify_fault};
+ghost use Rattle.sl_code_semantics.specs.Kinds.{is_register, contains, with_register, includes};
+ghost use Rattle.sl_code_semantics.specs.WellKinded.{IsWellKinded};
+ghost use Rattle.sl_code_semantics.specs.Faults.{verify_fault};
 ghost use Rattle.sl_verify.specs.Laws.{Limits, ComesInRow, PassedInRow, TestsInRow, PassedTests, KindedByPass, PassedWithin, PieceWithin, DeclaredFromFirst, NothingAsked};
 
 /// A code is well kinded exactly where it fails no test.

@@ -1,9 +1,8 @@
-//! The verifier of counting code: which codes never get stuck, and what is wrong with any other.
+//! The verifier of counting code: it accepts just the codes that are well kinded, and says what is wrong with any other.
 //!
-//! Stands on `sl_code_instructions`; used by the rooms code and explain. Proved: accepted are just the codes that are well kinded.
+//! Stands on `sl_code_semantics`; used by the room count. Proved: accepted are just the codes that are well kinded.
 #![tactic(auto)]
 
-mod fault;
 mod known;
 pub mod laws;
 mod leaves;
@@ -11,8 +10,5 @@ mod needs;
 mod pass;
 mod verifier;
 
-pub use fault::VerifyFault;
-pub use known::REGISTERS;
-pub use leaves::{cursors_behind, table_behind, with_ready};
-pub use needs::LAST_CLAUSE;
-pub use verifier::{Verified, verify};
+pub use sl_code_semantics::{REGISTERS, Verified, VerifyFault};
+pub use verifier::verify;

@@ -3,24 +3,22 @@
 ghost use Rattle.std.specs.Prelude.{◌≡◌, ◌&&◌, IsTrue, true};
 ghost use Rattle.std.specs.List.{list_all};
 ghost use Rattle.std.specs.Option.{option_map_or};
-ghost use Rattle.sl_verify.specs.Kinds.{contains, is_register};
-ghost use Rattle.sl_verify.specs.WellKinded.{context_of};
+ghost use Rattle.sl_code_semantics.specs.Kinds.{contains, is_register};
+ghost use Rattle.sl_code_semantics.specs.WellKinded.{context_of};
 ghost use Rattle.sl_base_terms.specs.Shapes.{same_shape};
 ghost use Rattle.sl_code_instructions.specs.declared.instr.Instr.{Instr};
 ghost use Rattle.sl_code_instructions.specs.Rows.{operands_of, register_in, slot_in, stage_in};
-ghost use Rattle.sl_verify.specs.Needs.{has_registers, has_slot, has_column, has_stage, input_shape, needed_shape, suits, has_columns, needed_positive, shape_cursors, scope_cursors, entry_cursors, slot_cursors, table_cursors, needed_cursors, has_kinds, takes_entry, takes_share, points_at, has_table};
+ghost use Rattle.sl_code_semantics.specs.Needs.{has_registers, has_slot, has_column, has_stage, input_shape, needed_shape, suits, has_columns, needed_positive, shape_cursors, scope_cursors, entry_cursors, slot_cursors, table_cursors, needed_cursors, has_kinds, takes_entry, takes_share, points_at, has_table};
 
-use crate::known::{
-    LAND_CURSOR, LIST_CURSORS, NO_CURSORS, PARTY_CURSOR, WIN_CURSOR, contains, covers, is_register,
-    same_entries, same_ranking,
-};
+use crate::known::{contains, covers, is_register, same_entries, same_ranking};
 use sl_base_terms::Shape;
 use sl_code_instructions::{
     Code, Cursors, Entries, Input, Instr, Kinds, Operand, Operands, Ranking, ScopeKind, TableState,
 };
-
-/// The stage number that stands for the last clause.
-pub const LAST_CLAUSE: u8 = 255;
+use sl_code_semantics::{
+    LAND_CURSOR, LAST_CLAUSE, LIST_CURSORS, NO_CURSORS, PARTY_CURSOR, WIN_CURSOR, entry_cursors,
+    table_cursors,
+};
 
 /// Whether the machine has the register, if the operand is one.
 fn has_register(operand: &Operand) -> bool
@@ -165,17 +163,6 @@ fn scope_cursors(scope: ScopeKind) -> Cursors
     }
 }
 
-fn entry_cursors(entries: Entries) -> Cursors
-    ensures { result ≡ entry_cursors entries }
-{
-    match entries {
-        Entries::Party => PARTY_CURSOR,
-        Entries::Land => LAND_CURSOR,
-        Entries::List => LIST_CURSORS,
-        Entries::Win => WIN_CURSOR,
-    }
-}
-
 /// The cursors that say a cell of the slot's column.
 fn slot_cursors(code: &Code, slot: u8) -> Cursors
     ensures { result ≡ slot_cursors (context_of code.now) slot }
@@ -183,16 +170,6 @@ fn slot_cursors(code: &Code, slot: u8) -> Cursors
     match code.slots().get(slot as usize) {
         None => NO_CURSORS,
         Some(shape) => shape_cursors(*shape),
-    }
-}
-
-/// The cursors that say an entry of the table.
-pub fn table_cursors(table: Option<TableState>) -> Cursors
-    ensures { result ≡ table_cursors table }
-{
-    match table {
-        None => NO_CURSORS,
-        Some(table) => entry_cursors(table.entries),
     }
 }
 

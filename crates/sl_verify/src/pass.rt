@@ -1,18 +1,18 @@
 //! One pass over the instructions of a code, in order.
 
 ghost use Rattle.std.specs.Prelude.{◌≡◌, [], ◌∷◌, Some, IsTrue, OnOk};
-ghost use Rattle.sl_verify.specs.Kinds.{start_kinds};
-ghost use Rattle.sl_verify.specs.Needs.{has_registers};
-ghost use Rattle.sl_verify.specs.Pieces.{kinds_here, comes_next, comes_after};
-ghost use Rattle.sl_verify.specs.WellKinded.{declared_by, declared_at, has_stage_slots};
+ghost use Rattle.sl_code_semantics.specs.Kinds.{start_kinds};
+ghost use Rattle.sl_code_semantics.specs.Needs.{has_registers};
+ghost use Rattle.sl_code_semantics.specs.Pieces.{kinds_here, comes_next, comes_after};
+ghost use Rattle.sl_code_semantics.specs.WellKinded.{declared_by, declared_at, has_stage_slots};
 ghost use Rattle.sl_base_terms.specs.Tests.{test, Judges};
-ghost use Rattle.sl_verify.specs.Faults.{coming_tests, need_tests, landing_tests, jump_tests, own_tests, instr_tests, end_tests, pass_tests, verify_tests};
+ghost use Rattle.sl_code_semantics.specs.Faults.{coming_tests, need_tests, landing_tests, jump_tests, own_tests, instr_tests, end_tests, pass_tests, verify_tests};
 
-use crate::fault::VerifyFault;
 use crate::known::{START, implies};
 use crate::leaves::{behind, carried};
 use crate::needs::{has_columns, has_kinds, has_registers, has_slot, has_table};
 use sl_code_instructions::{Code, Instr, Kinds};
+use sl_code_semantics::VerifyFault;
 
 /// Refuses with a fault what fails a test.
 fn test(holds: bool, otherwise: VerifyFault) -> Result<(), VerifyFault>

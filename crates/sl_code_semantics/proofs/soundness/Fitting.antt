@@ -23,9 +23,9 @@ use Rattle.sl_code_instructions.specs.declared.operand.Entries.TheVariants as en
 use Rattle.sl_code_instructions.specs.declared.operand.ScopeKind.{ScopeKind}
 use Rattle.sl_code_instructions.specs.declared.operand.ScopeKind.TheVariants as kind
 use Rattle.sl_code_instructions.specs.Codes.{CountingCode}
-use Rattle.sl_verify.specs.declared.needs.TheConstants.{LAST_CLAUSE}
-use Rattle.sl_verify.specs.Needs.{has_columns, has_column}
-use Rattle.sl_verify.specs.WellKinded.{context_of}
+use Rattle.sl_code_semantics.specs.declared.known.TheConstants.{LAST_CLAUSE}
+use Rattle.sl_code_semantics.specs.Needs.{has_columns, has_column}
+use Rattle.sl_code_semantics.specs.WellKinded.{context_of}
 use Rattle.sl_prio.specs.Prio.{top, peers}
 use Rattle.sl_code_semantics.specs.State.{State, PriorityTable}
 use Rattle.sl_code_semantics.specs.Places.{both, index_at, item_of, at_entry, scope_at}

@@ -20,11 +20,11 @@ use Rattle.sl_code_instructions.specs.declared.operand.Entries.{Entries}
 use Rattle.sl_code_instructions.specs.declared.operand.Entries.TheVariants as entries
 use Rattle.sl_code_instructions.specs.declared.operand.Ranking.{Ranking}
 use Rattle.sl_code_instructions.specs.declared.operand.Ranking.TheVariants as ranking
-use Rattle.sl_verify.specs.Kinds.{contains, covers, includes, implies, fits_table, same_entries, same_ranking}
-use Rattle.sl_verify.specs.Needs.{has_registers, has_columns, has_kinds, has_table, has_needs, needed_positive, needed_cursors}
+use Rattle.sl_code_semantics.specs.Kinds.{contains, covers, includes, implies, fits_table, same_entries, same_ranking}
+use Rattle.sl_code_semantics.specs.Needs.{has_registers, has_columns, has_kinds, has_table, has_needs, needed_positive, needed_cursors}
 use Rattle.sl_code_instructions.specs.Rows.{target_of}
-use Rattle.sl_verify.specs.Leaves.{behind, carried, with_party, with_land, with_win}
-use Rattle.sl_verify.specs.WellKinded.{context_of}
+use Rattle.sl_code_semantics.specs.Leaves.{behind, carried, with_party, with_land, with_win}
+use Rattle.sl_code_semantics.specs.WellKinded.{context_of}
 use Rattle.sl_code_semantics.specs.State.{State, PriorityTable}
 use Rattle.sl_code_semantics.specs.Effects.{Effect, Goes, Jumps, Ends, NoCase, effect, given, where_positive}
 use Rattle.sl_code_semantics.specs.Safe.{IsInRange, entries_in}

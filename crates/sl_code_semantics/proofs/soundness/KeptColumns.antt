@@ -11,9 +11,9 @@ use Rattle.sl_code_instructions.specs.Codes.{CountingCode}
 use Rattle.sl_code_instructions.specs.declared.instr.Instr.{Instr}
 use Rattle.sl_code_instructions.specs.declared.instr.Instr.TheVariants as op
 use Rattle.sl_code_instructions.specs.declared.kinds.Kinds.{Kinds}
-use Rattle.sl_verify.specs.Kinds.{list_cursors, no_cursors, covers, with_register}
-use Rattle.sl_verify.specs.Needs.{shape_cursors, slot_cursors}
-use Rattle.sl_verify.specs.WellKinded.{context_of}
+use Rattle.sl_code_semantics.specs.Kinds.{list_cursors, no_cursors, covers, with_register}
+use Rattle.sl_code_semantics.specs.Needs.{shape_cursors, slot_cursors}
+use Rattle.sl_code_semantics.specs.WellKinded.{context_of}
 use Rattle.sl_code_semantics.specs.State.{State}
 use Rattle.sl_code_semantics.specs.Places.{both, cell_at}
 use Rattle.sl_code_semantics.specs.Effects.{Effect, Goes, Jumps, given}

@@ -7,7 +7,7 @@ use Rattle.sl_stages.specs.returns.Election.{Election, IsElection, IsWin, lands_
 use Rattle.sl_code_instructions.specs.declared.instr.Instr.{Instr}
 use Rattle.sl_code_instructions.specs.declared.instr.Instr.TheVariants as op
 use Rattle.sl_code_instructions.specs.declared.kinds.Kinds.{Kinds}
-use Rattle.sl_verify.specs.Kinds.{win_cursor, covers}
+use Rattle.sl_code_semantics.specs.Kinds.{win_cursor, covers}
 use Rattle.sl_code_semantics.specs.State.{State}
 use Rattle.sl_code_semantics.specs.Effects.{Goes, Jumps, winner_at, first_of, next_of, to_party}
 use Rattle.sl_code_semantics.proofs.soundness.Sets.{set_covered}

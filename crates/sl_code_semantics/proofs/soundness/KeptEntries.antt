@@ -14,8 +14,8 @@ use Rattle.sl_code_instructions.specs.declared.operand.Entries.{Entries}
 use Rattle.sl_code_instructions.specs.declared.operand.Entries.TheVariants as entries
 use Rattle.sl_code_instructions.specs.declared.operand.Ranking.{Ranking}
 use Rattle.sl_code_instructions.specs.declared.operand.Ranking.TheVariants as ranking
-use Rattle.sl_verify.specs.Kinds.{covers, same_entries, same_ranking, win_cursor}
-use Rattle.sl_verify.specs.Needs.{entry_cursors, table_cursors, is_table, takes_entry, takes_share}
+use Rattle.sl_code_semantics.specs.Kinds.{covers, same_entries, same_ranking, win_cursor}
+use Rattle.sl_code_semantics.specs.Needs.{entry_cursors, table_cursors, is_table, takes_entry, takes_share}
 use Rattle.sl_code_semantics.specs.State.{State, PriorityTable}
 use Rattle.sl_code_semantics.specs.Places.{both, index_at}
 use Rattle.sl_code_semantics.specs.Effects.{Effect, Goes, NoCase, given, with_table, with_entry, winner_at}

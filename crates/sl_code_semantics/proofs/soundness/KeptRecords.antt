@@ -14,9 +14,9 @@ use Rattle.sl_code_instructions.specs.declared.kinds.Kinds.{Kinds}
 use Rattle.sl_code_instructions.specs.declared.operand.Entries.TheVariants as entries
 use Rattle.sl_code_instructions.specs.declared.operand.ScopeKind.{ScopeKind}
 use Rattle.sl_code_instructions.specs.declared.operand.ScopeKind.TheVariants as kind
-use Rattle.sl_verify.specs.Kinds.{covers, same_entries, win_cursor}
-use Rattle.sl_verify.specs.Needs.{entry_cursors, scope_cursors, has_stage, is_table, points_at}
-use Rattle.sl_verify.specs.WellKinded.{context_of}
+use Rattle.sl_code_semantics.specs.Kinds.{covers, same_entries, win_cursor}
+use Rattle.sl_code_semantics.specs.Needs.{entry_cursors, scope_cursors, has_stage, is_table, points_at}
+use Rattle.sl_code_semantics.specs.WellKinded.{context_of}
 use Rattle.sl_code_semantics.specs.State.{State, PriorityTable, with_place}
 use Rattle.sl_code_semantics.specs.Places.{index_at, scope_at}
 use Rattle.sl_code_semantics.specs.Effects.{Effect, Goes, given, at_scope, records, seat_winner, stage_of}

@@ -5,7 +5,7 @@ use Rattle.std.proofs.lemmas.Bool.{and_parts, or_cases, true≢false}
 use Rattle.sl_stages.specs.returns.Election.{Election, IsElection}
 use Rattle.sl_code_instructions.specs.declared.instr.Instr.TheVariants as op
 use Rattle.sl_code_instructions.specs.declared.kinds.Kinds.{Kinds}
-use Rattle.sl_verify.specs.Kinds.{contains, is_register, with_register}
+use Rattle.sl_code_semantics.specs.Kinds.{contains, is_register, with_register}
 use Rattle.sl_code_semantics.specs.State as machine
 use Rattle.sl_code_semantics.specs.State.{State}
 use Rattle.sl_code_semantics.specs.Effects.{most, sets_house}

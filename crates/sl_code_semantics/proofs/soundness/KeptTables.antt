@@ -14,11 +14,11 @@ use Rattle.sl_code_instructions.specs.declared.kinds.Kinds.{Kinds}
 use Rattle.sl_code_instructions.specs.declared.kinds.TableState.{TableState}
 use Rattle.sl_code_instructions.specs.declared.operand.Entries.{Entries}
 use Rattle.sl_code_instructions.specs.declared.operand.Entries.TheVariants as entries
-use Rattle.sl_verify.specs.declared.needs.TheConstants.{LAST_CLAUSE}
-use Rattle.sl_verify.specs.Kinds.{is_register, join}
-use Rattle.sl_verify.specs.Needs.{entry_cursors, table_cursors, has_stage, is_table}
-use Rattle.sl_verify.specs.Leaves.{with_ready}
-use Rattle.sl_verify.specs.WellKinded.{context_of}
+use Rattle.sl_code_semantics.specs.declared.known.TheConstants.{LAST_CLAUSE}
+use Rattle.sl_code_semantics.specs.Kinds.{is_register, join}
+use Rattle.sl_code_semantics.specs.Needs.{entry_cursors, table_cursors, has_stage, is_table}
+use Rattle.sl_code_semantics.specs.Leaves.{with_ready}
+use Rattle.sl_code_semantics.specs.WellKinded.{context_of}
 use Rattle.sl_code_semantics.specs.State.{State, PriorityTable}
 use Rattle.sl_code_semantics.specs.Places.{at_entry}
 use Rattle.sl_prio.specs.Ranking.{without}

@@ -6,8 +6,8 @@ use Rattle.std.proofs.lemmas.Nat.{pow_below}
 use Rattle.std.proofs.lemmas.Nat.Bits.{bit_at_and, bit_at_or, bit_at_not, bit_at-lt, bit_at-zero, bit_at-pow_same, bit_at-pow_other}
 use Rattle.sl_code_instructions.specs.declared.kinds.Registers.{Registers}
 use Rattle.sl_code_instructions.specs.declared.kinds.Cursors.{Cursors}
-use Rattle.sl_verify.specs.Kinds.{contains, with_register, includes, is_register, covers, no_cursors}
-use Rattle.sl_verify.proofs.RegisterSets.{includes_each}
+use Rattle.sl_code_semantics.specs.Kinds.{contains, with_register, includes, is_register, covers, no_cursors}
+use Rattle.sl_code_semantics.proofs.kinds.RegisterSets.{includes_each}
 use Rattle.sl_code_semantics.specs.Agrees.{ArePositive, AreSet}
 
 -- ---- registers

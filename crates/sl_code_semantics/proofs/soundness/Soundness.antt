@@ -14,10 +14,10 @@ use Rattle.sl_code_instructions.specs.declared.operand.Ranking.TheVariants as ra
 use Rattle.sl_stages.specs.declared.table.Placed.TheVariants as placed
 use Rattle.sl_prio.specs.Prio.{top, is_covered}
 use Rattle.sl_prio.specs.Lot.{drawn}
-use Rattle.sl_verify.specs.Kinds.{start_kinds, implies, party_cursor, land_cursor, win_cursor}
+use Rattle.sl_code_semantics.specs.Kinds.{start_kinds, implies, party_cursor, land_cursor, win_cursor}
 use Rattle.sl_code_instructions.specs.Rows.{target_of}
-use Rattle.sl_verify.specs.Leaves.{behind, carried}
-use Rattle.sl_verify.specs.WellKinded.{IsWellKinded, Stands, coming, declared_by, leads_well, context_of}
+use Rattle.sl_code_semantics.specs.Leaves.{behind, carried}
+use Rattle.sl_code_semantics.specs.WellKinded.{IsWellKinded, Stands, coming, declared_by, leads_well, context_of}
 use Rattle.sl_code_semantics.specs.State.{State, start}
 use Rattle.sl_code_semantics.specs.Effects.{Effect, Goes, Jumps, Ends, NoCase, effect, winner_at, with_party, with_land, with_win}
 use Rattle.sl_code_semantics.specs.Fits.{FitsRecords, FitsStep, FitsWeight}

@@ -11,13 +11,13 @@ use Rattle.sl_code_instructions.specs.declared.instr.Instr.{Instr}
 use Rattle.sl_code_instructions.specs.declared.instr.Instr.TheVariants.{Halt, Haltv}
 use Rattle.sl_code_instructions.specs.declared.kinds.Kinds.{Kinds}
 use Rattle.sl_code_instructions.specs.Codes.{CountingCode}
-use Rattle.sl_verify.specs.Kinds.{start_kinds, covers, no_cursors}
-use Rattle.sl_verify.specs.Needs.{has_slot, has_needs}
-use Rattle.sl_verify.specs.Pieces.{comes_after, are_passed}
-use Rattle.sl_verify.specs.WellKinded.{context_of, IsWellKinded}
-use Rattle.sl_verify.proofs.Passing.{both_hold}
-use Rattle.sl_verify.proofs.PieceFacts.{comes_in_row, passed_in_row}
-use Rattle.sl_verify.proofs.Kinded.{kinded_as_passed}
+use Rattle.sl_code_semantics.specs.Kinds.{start_kinds, covers, no_cursors}
+use Rattle.sl_code_semantics.specs.Needs.{has_slot, has_needs}
+use Rattle.sl_code_semantics.specs.Pieces.{comes_after, are_passed}
+use Rattle.sl_code_semantics.specs.WellKinded.{context_of, IsWellKinded}
+use Rattle.sl_code_semantics.proofs.kinds.Passing.{both_hold}
+use Rattle.sl_code_semantics.proofs.kinds.PieceFacts.{comes_in_row, passed_in_row}
+use Rattle.sl_code_semantics.proofs.kinds.Kinded.{kinded_as_passed}
 use Rattle.sl_compile_plans.specs.Fine.{ArePassed}
 use Rattle.sl_compile_pieces.specs.declared.slots.TheConstants.{VACANT_SEATS as vacant_seats}
 use Rattle.sl_compile_pieces.specs.exprs.Slots.{stage_slot, HasBookSlots}

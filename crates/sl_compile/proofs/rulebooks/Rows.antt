@@ -7,11 +7,11 @@ use Rattle.sl_code_instructions.specs.declared.instr.Instr.{Instr}
 use Rattle.sl_code_instructions.specs.Codes.{CountingCode}
 use Rattle.sl_code_instructions.specs.Proper.{IsInRange}
 use Rattle.sl_code_instructions.specs.Standing.{HasAt}
-use Rattle.sl_verify.specs.Kinds.{start_kinds}
-use Rattle.sl_verify.specs.Pieces.{comes_after, are_passed}
-use Rattle.sl_verify.specs.WellKinded.{context_of}
-use Rattle.sl_verify.proofs.Passing.{both_hold}
-use Rattle.sl_verify.proofs.PieceFacts.{comes_in_row, passed_in_row}
+use Rattle.sl_code_semantics.specs.Kinds.{start_kinds}
+use Rattle.sl_code_semantics.specs.Pieces.{comes_after, are_passed}
+use Rattle.sl_code_semantics.specs.WellKinded.{context_of}
+use Rattle.sl_code_semantics.proofs.kinds.Passing.{both_hold}
+use Rattle.sl_code_semantics.proofs.kinds.PieceFacts.{comes_in_row, passed_in_row}
 use Rattle.sl_code_semantics.specs.State.{State, End}
 use Rattle.sl_code_semantics.specs.Comes.{Comes}
 use Rattle.sl_code_semantics.proofs.runs.Coming.{stays, after, ends_after, ends_wider}

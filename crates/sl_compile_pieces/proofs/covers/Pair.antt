@@ -10,7 +10,7 @@ use Rattle.sl_code_instructions.specs.Codes.{CountingCode}
 use Rattle.sl_code_instructions.specs.declared.instr.Instr.TheVariants.{Seat}
 use Rattle.sl_code_instructions.specs.declared.operand.Entries.TheVariants as entries
 use Rattle.sl_code_instructions.specs.declared.operand.Ranking.TheVariants as ranking
-use Rattle.sl_verify.specs.declared.needs.TheConstants.{LAST_CLAUSE}
+use Rattle.sl_code_semantics.specs.declared.known.TheConstants.{LAST_CLAUSE}
 use Rattle.sl_prio.specs.Ranking.{ranked}
 use Rattle.sl_code_semantics.specs.State.{State, with_register}
 use Rattle.sl_code_semantics.specs.Effects.{most, with_table}

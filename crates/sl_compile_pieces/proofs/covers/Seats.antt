@@ -20,7 +20,7 @@ use Rattle.sl_stages.proofs.methods.SeatSums.{sum_zeros}
 use Rattle.sl_code_instructions.specs.Codes.{CountingCode}
 use Rattle.sl_code_instructions.specs.declared.instr.Instr.TheVariants.{Seat}
 use Rattle.sl_code_instructions.specs.declared.operand.Entries.TheVariants as entries
-use Rattle.sl_verify.specs.declared.needs.TheConstants.{LAST_CLAUSE}
+use Rattle.sl_code_semantics.specs.declared.known.TheConstants.{LAST_CLAUSE}
 use Rattle.sl_code_semantics.specs.State.{State, with_place}
 use Rattle.sl_code_semantics.specs.Places.{item_of}
 use Rattle.sl_code_semantics.specs.Drawn.{lot_of}

@@ -18,7 +18,7 @@ use Rattle.sl_code_instructions.specs.Codes.{CountingCode}
 use Rattle.sl_code_instructions.specs.declared.instr.Instr.TheVariants.{Take, Tie}
 use Rattle.sl_code_instructions.specs.declared.operand.Entries.TheVariants as entries
 use Rattle.sl_code_instructions.specs.declared.operand.ScopeKind.TheVariants as kind
-use Rattle.sl_verify.specs.declared.needs.TheConstants.{LAST_CLAUSE}
+use Rattle.sl_code_semantics.specs.declared.known.TheConstants.{LAST_CLAUSE}
 use Rattle.sl_prio.specs.Ranking.{ranked}
 use Rattle.sl_prio.specs.Prio.{top, peers}
 use Rattle.sl_prio.proofs.RankedEntries.{ranked_alike}

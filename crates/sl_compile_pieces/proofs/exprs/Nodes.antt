@@ -19,7 +19,7 @@ use Rattle.sl_stages.specs.meaning.Expressions.{IsSplit, IsGrown}
 use Rattle.sl_stages.specs.laws.OneLaws.{FitsMethod}
 use Rattle.sl_code_instructions.specs.declared.code.CodeStage.{CodeStage}
 use Rattle.sl_code_instructions.specs.Codes.{CountingCode}
-use Rattle.sl_verify.specs.declared.needs.TheConstants.{LAST_CLAUSE}
+use Rattle.sl_code_semantics.specs.declared.known.TheConstants.{LAST_CLAUSE}
 use Rattle.sl_code_semantics.specs.State.{State}
 use Rattle.sl_code_semantics.specs.Effects.{stage_of, name_of}
 use Rattle.sl_compile_plans.specs.Trees.{Tree}

@@ -8,8 +8,8 @@ use Rattle.sl_stages.specs.declared.book.Axis.TheVariants as axis
 use Rattle.sl_base_terms.specs.declared.shape.Shape.{Shape}
 use Rattle.sl_base_terms.specs.declared.shape.Shape.TheVariants as shape
 use Rattle.sl_stages.specs.book.Typing.{can_sum}
-use Rattle.sl_verify.specs.declared.needs.TheConstants.{LAST_CLAUSE}
-use Rattle.sl_verify.specs.Kinds.{start_kinds}
+use Rattle.sl_code_semantics.specs.declared.known.TheConstants.{LAST_CLAUSE}
+use Rattle.sl_code_semantics.specs.Kinds.{start_kinds}
 use Rattle.sl_compile_plans.specs.Trees.{Tree}
 use Rattle.sl_compile_plans.specs.Fine.{is_fine, judged_by}
 use Rattle.sl_compile_pieces.specs.columns.Trees.{copy_tree, pair_tree, sum_tree, summed}

@@ -2,9 +2,9 @@
 use Rattle.std.proofs.Common.{◌≡◌, ℕ, zero, suc, true, Option, Some, refl, ◌∙◌}
 use Rattle.sl_base_terms.specs.declared.shape.Shape.{Shape}
 use Rattle.sl_base_terms.specs.declared.shape.Shape.TheVariants as shape
-use Rattle.sl_verify.specs.declared.needs.TheConstants.{LAST_CLAUSE}
-use Rattle.sl_verify.specs.Kinds.{start_kinds}
-use Rattle.sl_verify.specs.Needs.{Context}
+use Rattle.sl_code_semantics.specs.declared.known.TheConstants.{LAST_CLAUSE}
+use Rattle.sl_code_semantics.specs.Kinds.{start_kinds}
+use Rattle.sl_code_semantics.specs.Needs.{Context}
 use Rattle.sl_compile_plans.specs.Fine.{is_fine, judged_by}
 use Rattle.sl_compile_pieces.specs.covers.Trees.{CoverSlots, cover_tree}
 use Rattle.sl_compile_plans.proofs.Renaming.{Renaming, Renames, renamed_is_fine}

@@ -6,7 +6,7 @@ use Rattle.sl_ratio.specs.declared.method.Divisor.{Divisor}
 use Rattle.sl_base_terms.specs.declared.shape.Shape.{Shape}
 use Rattle.sl_stages.specs.declared.book.Majority.{Majority}
 use Rattle.sl_stages.specs.declared.book.Majority.TheVariants as majority
-use Rattle.sl_verify.specs.Kinds.{start_kinds}
+use Rattle.sl_code_semantics.specs.Kinds.{start_kinds}
 use Rattle.sl_compile_plans.specs.Fine.{is_fine, judged_by}
 use Rattle.sl_compile_pieces.specs.declared.form.Form.{Form}
 use Rattle.sl_compile_pieces.specs.declared.form.Form.TheVariants.{AllParties}

@@ -4,7 +4,7 @@ use Rattle.sl_code_instructions.specs.declared.instr.Instr.TheVariants.{Set, Mov
 use Rattle.sl_code_instructions.specs.declared.operand.Entries.TheVariants as entries
 use Rattle.sl_code_instructions.specs.declared.operand.Ranking.TheVariants as ranking
 use Rattle.sl_code_instructions.specs.declared.operand.ScopeKind.TheVariants as kind
-use Rattle.sl_verify.specs.declared.needs.TheConstants.{LAST_CLAUSE}
+use Rattle.sl_code_semantics.specs.declared.known.TheConstants.{LAST_CLAUSE}
 use Rattle.sl_compile_plans.specs.declared.plan.Cursor.TheVariants as cursor
 use Rattle.sl_compile_plans.specs.declared.plan.Test.TheVariants as test
 use Rattle.sl_compile_plans.specs.declared.plan.Bound.TheVariants as bound

@@ -10,6 +10,7 @@ ghost use Rattle.sl_count_inputs.specs.declared.limits.TheConstants.{MAX_CODE_BY
 ghost use Rattle.sl_machine.specs.Fits.{Fits};
 
 use crate::runs::run_text;
+use sl_code_semantics::Verified;
 use sl_count_calls::Answer;
 use sl_count_code_files::{CodeRefusal, ReadCode, read_code};
 use sl_count_inputs::{
@@ -18,7 +19,6 @@ use sl_count_inputs::{
 use sl_machine::{Ending, budget, run_unrecorded};
 use sl_ratio::NoMemory;
 use sl_stages::Returns;
-use sl_verify::Verified;
 use std::alloc::Global;
 
 /// Good code on good returns, and how its run ends, with the budget of its stages and without its records.

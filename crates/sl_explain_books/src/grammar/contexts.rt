@@ -1,5 +1,6 @@
 //! What to write at a place, by what may stand there.
 
+use crate::beginning::Sort;
 use crate::texts::{
     AXES, BASE, BEGINNING, CLOSED, CONDITIONS, END, EXPRESSION, FORMS_LISTED, JOINED, LAW_TEXT,
     MAJORITY, METHODS, NAME_REMEDY, NUMBER_REMEDY, OPTIONS, ORDER, PER, SEATING, STAGE,
@@ -7,7 +8,6 @@ use crate::texts::{
 };
 use sl_explain_texts::Message;
 use sl_lex::{Keyword, Mark};
-use sl_parse::Sort;
 
 // What to write where a token of a sort may stand. The first row that fits is said.
 static CONTEXTS: [(Sort, Message); 29] = [

@@ -1,10 +1,13 @@
 //! What may stand at a place of a rulebook: the tokens with which a book may go on there.
 
+ghost use Rattle.std.specs.Prelude.{◌≡◌};
+ghost use Rattle.sl_lex.specs.Tokens.{sign};
+
+use crate::beginning::{Sort, begins_book};
 use crate::pieces::{piece, span_within};
 use crate::texts::{NAME_WORD, NUMBER_WORD, TEXT_WORD};
 use sl_explain_texts::Speaker;
 use sl_lex::{KEYWORDS, Mark, Token};
-use sl_parse::{Sort, begins_book};
 use sl_ratio::NoMemory;
 use std::alloc::Global;
 
@@ -83,11 +86,24 @@ fn word_of(sort: Sort) -> Option<&'static [u8]> {
     }
 }
 
+// The byte that a mark is.
+fn sign(mark: Mark) -> &'static [u8]
+    ensures { result.now ≡ sign mark }
+{
+    match mark {
+        Mark::Semicolon => b";",
+        Mark::Equals => b"=",
+        Mark::Comma => b",",
+        Mark::Open => b"(",
+        Mark::Close => b")",
+    }
+}
+
 // A sort of tokens as a sentence speaks of it.
 fn said(speaker: Speaker, sort: Sort) -> Result<Vec<u8>, NoMemory> {
     match sort {
         Sort::Keyword(keyword) => speaker.quoted(keyword.spelling().as_bytes()),
-        Sort::Mark(mark) => speaker.quoted(mark.sign()),
+        Sort::Mark(mark) => speaker.quoted(sign(mark)),
         Sort::Number => speaker.text(&NUMBER_WORD, &[]),
         Sort::Text => speaker.text(&TEXT_WORD, &[]),
         Sort::Name => speaker.text(&NAME_WORD, &[]),

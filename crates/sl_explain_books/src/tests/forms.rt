@@ -7,6 +7,7 @@ use super::columns::{column_words, types_of};
 use super::divisions::explain_division;
 use super::names::{above, around, named};
 use super::node::{Node, node_at};
+use crate::keywords::{axis_keyword, pairing_keyword};
 use crate::pieces::{line_number, piece, token_span};
 use crate::texts::{
     MADE, NOT_FITTING, PAIR, PAIR_ALL, PAIR_SUM_FIRST, PAIR_SUM_SECOND, PAIR_UNIT_REMEDY, SUM_AXIS,
@@ -14,7 +15,6 @@ use crate::texts::{
 };
 use sl_check::Columns;
 use sl_explain_texts::{Explanation, FaultCode, Message, Sentence, Span, Speaker};
-use sl_parse::{axis_keyword, pairing_keyword};
 use sl_ratio::NoMemory;
 use sl_stages::{Axis, Book, ColumnType, Shape, Stage};
 

@@ -5,26 +5,27 @@ use Rattle.sl_stages.specs.returns.Election.{Election}
 use Rattle.sl_code_instructions.specs.Codes.{CountingCode}
 use Rattle.sl_code_instructions.specs.declared.instr.Instr.{Instr}
 use Rattle.sl_code_instructions.specs.declared.instr.Instr.TheVariants as op
-use Rattle.sl_verify.specs.Needs.{has_columns}
-use Rattle.sl_verify.specs.WellKinded.{context_of}
+use Rattle.sl_code_semantics.specs.Needs.{has_columns}
+use Rattle.sl_code_semantics.specs.WellKinded.{context_of}
 use Rattle.sl_code_instructions.specs.Rows.{target_of}
-use Rattle.sl_machine.specs.declared.step.End.{End}
-use Rattle.sl_machine.specs.declared.step.Records.{Records}
-use Rattle.sl_machine.specs.declared.step.Records.TheVariants as records
+use Rattle.sl_code_steps.specs.declared.step.End.{End}
+use Rattle.sl_code_steps.specs.declared.step.Records.{Records}
+use Rattle.sl_code_steps.specs.declared.step.Records.TheVariants as records
 use Rattle.sl_code_semantics.specs.Agrees.{IsSafe}
 use Rattle.sl_code_semantics.specs.Effects.{Effect, Goes, Jumps, Ends, NoCase, effect}
 use Rattle.sl_code_semantics.specs.Fits.{FitsEnd}
 use Rattle.sl_code_semantics.specs.Laws.{StepsSafely, LandsSafely}
 use Rattle.sl_code_semantics.specs.Runs.{Step, follow, to_target, after_step, run}
-use Rattle.sl_machine.specs.inner.Leading.{LeadsTo, EndsWith, ends_run}
-use Rattle.sl_machine.specs.inner.Recording.{state_by, effect_by, ending_by, left_by}
+use Rattle.sl_machine.specs.inner.Leading.{LeadsTo, EndsWith}
+use Rattle.sl_code_steps.specs.inner.Ends.{ends_run}
+use Rattle.sl_code_steps.specs.inner.Recording.{state_by, effect_by, ending_by, left_by}
 use Rattle.sl_code_semantics.specs.Safe.{MayStep}
 use Rattle.sl_code_semantics.specs.State.{State}
-use Rattle.sl_machine.specs.inner.Stores.{end_with}
+use Rattle.sl_code_steps.specs.inner.Stores.{end_with}
 use Rattle.sl_machine.specs.inner.Ways.{is_idle}
 use Rattle.sl_code_semantics.proofs.soundness.Soundness.{safe_steps}
 use Rattle.sl_code_semantics.proofs.runs.Stepping.{step_is}
-use Rattle.sl_machine.proofs.runs.Dropping.{idle_goes}
+use Rattle.sl_machine.proofs.runs.Idle.{idle_goes}
 use Rattle.sl_machine.proofs.runs.Unrecorded.{still_safe, still_fits, left_is, goes_by, ends_by}
 
 -- what ends a run records nothing

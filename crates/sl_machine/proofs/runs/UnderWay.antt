@@ -9,11 +9,11 @@ use Rattle.sl_code_semantics.specs.Agrees.{IsSafe}
 use Rattle.sl_code_semantics.specs.Runs.{run}
 use Rattle.sl_code_semantics.specs.State.{State}
 use Rattle.sl_machine.specs.declared.clock.Clock.{Clock}
-use Rattle.sl_machine.specs.declared.step.Records.{Records}
-use Rattle.sl_machine.specs.declared.store.Store.{Store}
+use Rattle.sl_code_steps.specs.declared.step.Records.{Records}
+use Rattle.sl_code_steps.specs.declared.store.Store.{Store}
 use Rattle.sl_machine.specs.declared.way.Standing.{Standing}
 use Rattle.sl_machine.specs.inner.Leading.{LeadsTo}
-use Rattle.sl_machine.specs.inner.Recording.{state_by, ending_by}
+use Rattle.sl_code_steps.specs.inner.Recording.{state_by, ending_by}
 use Rattle.sl_machine.specs.inner.UnderWay.{steps_left, IsHere, IsUnderWay, rest_of, GoesOn, IsOut, EndsFirst}
 use Rattle.sl_machine.specs.inner.Ways.{is_idle, standing_from}
 use Rattle.sl_machine.proofs.runs.Ways.{ComesOn, comes_on}

@@ -5,8 +5,8 @@ use Rattle.sl_stages.specs.returns.Election.{Election}
 use Rattle.sl_code_instructions.specs.declared.instr.Instr.{Instr}
 use Rattle.sl_code_instructions.specs.Codes.{CountingCode}
 use Rattle.sl_code_instructions.specs.Rows.{target_of}
-use Rattle.sl_machine.specs.declared.step.Records.{Records}
-use Rattle.sl_machine.specs.declared.step.Records.TheVariants as records
+use Rattle.sl_code_steps.specs.declared.step.Records.{Records}
+use Rattle.sl_code_steps.specs.declared.step.Records.TheVariants as records
 use Rattle.sl_code_semantics.specs.State.{State, End, Halted, Faulted, start}
 use Rattle.sl_code_semantics.specs.Agrees.{IsSafe}
 use Rattle.sl_code_semantics.specs.Effects.{Effect, Goes, Jumps, Ends, NoCase, effect}
@@ -14,8 +14,8 @@ use Rattle.sl_code_semantics.specs.Fits.{FitsEnd, FitsRecords, FitsStep, FitsWei
 use Rattle.sl_code_semantics.specs.Runs.{Ending, Ended, Stuck, follow, after_step, step_of, run}
 use Rattle.sl_code_semantics.specs.Unrecorded.{unrecorded, unrecorded_end, without_records}
 use Rattle.sl_code_semantics.specs.Frames.{records_step, records_weight}
-use Rattle.sl_machine.specs.inner.Recording.{unrecorded_effect, state_by, effect_by, ending_by, left_by}
-use Rattle.sl_machine.proofs.runs.Dropping.{drops}
+use Rattle.sl_code_steps.specs.inner.Recording.{unrecorded_effect, state_by, effect_by, ending_by, left_by}
+use Rattle.sl_code_steps.proofs.Dropping.{drops}
 
 -- ---- states, ends
 pub start_by : (k : Records) → state_by k start ≡ start

@@ -7,10 +7,10 @@ use Rattle.sl_code_instructions.specs.Codes.{CountingCode}
 use Rattle.sl_code_instructions.specs.declared.instr.Instr.{Instr}
 use Rattle.sl_code_semantics.specs.Agrees.{IsSafe}
 use Rattle.sl_code_semantics.specs.State.{State}
-use Rattle.sl_machine.specs.declared.step.Records.{Records}
+use Rattle.sl_code_steps.specs.declared.step.Records.{Records}
 use Rattle.sl_machine.specs.declared.way.Standing.{Standing}
 use Rattle.sl_machine.specs.inner.Leading.{LeadsTo}
-use Rattle.sl_machine.specs.inner.Recording.{state_by}
+use Rattle.sl_code_steps.specs.inner.Recording.{state_by}
 use Rattle.sl_machine.specs.inner.Ways.{is_idle, standing_from, standing_before}
 use Rattle.sl_machine.proofs.runs.Leading.{idle_leads, stays, leads_after}
 

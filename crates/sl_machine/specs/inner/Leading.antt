@@ -1,26 +1,17 @@
 -- Where a step of the machine leads, and how its steps end.
-use Rattle.std.specs.Prelude.{◌≡◌, ◌-◌, ℕ, suc, Bool, true, false, Option, Some, None, IsTrue, slice_get}
+use Rattle.std.specs.Prelude.{◌≡◌, ◌-◌, ℕ, suc, Option, Some, None, IsTrue, slice_get}
 use Rattle.std.specs.Option.{ForSome}
 use Rattle.sl_stages.specs.returns.Election.{Election}
 use Rattle.sl_code_instructions.specs.Codes.{CountingCode}
-use Rattle.sl_code_instructions.specs.declared.instr.Instr.{Instr}
-use Rattle.sl_code_instructions.specs.declared.instr.Instr.TheVariants as op
-use Rattle.sl_machine.specs.declared.step.End.{End}
-use Rattle.sl_machine.specs.declared.step.Records.{Records}
+use Rattle.sl_code_steps.specs.declared.step.End.{End}
+use Rattle.sl_code_steps.specs.inner.Ends.{ends_run}
+use Rattle.sl_code_steps.specs.declared.step.Records.{Records}
 use Rattle.sl_code_semantics.specs.State.{State}
 use Rattle.sl_code_semantics.specs.Agrees.{IsSafe}
 use Rattle.sl_code_semantics.specs.Fits.{FitsEnd}
 use Rattle.sl_code_semantics.specs.Runs.{Ending, Ended, OutOfBudget, run}
-use Rattle.sl_machine.specs.inner.Recording.{state_by, ending_by}
-use Rattle.sl_machine.specs.inner.Stores.{end_with}
-
--- the instructions that end a run
-abbrev pub ends_run : Instr → Bool
-ends_run (op.Fault n k f) = true
-ends_run (op.Tie n k r) = true
-ends_run (op.Halt k) = true
-ends_run (op.Haltv k v) = true
-ends_run _ = false
+use Rattle.sl_code_steps.specs.inner.Recording.{state_by, ending_by}
+use Rattle.sl_code_steps.specs.inner.Stores.{end_with}
 
 -- such a one stands at the place
 abbrev pub EndsAt : CountingCode → ℕ → Type 0

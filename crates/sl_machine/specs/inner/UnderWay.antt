@@ -6,10 +6,10 @@ use Rattle.sl_code_semantics.specs.Agrees.{IsSafe}
 use Rattle.sl_code_semantics.specs.Runs.{Ending, OutOfBudget, run}
 use Rattle.sl_code_semantics.specs.State.{State}
 use Rattle.sl_machine.specs.declared.clock.Clock.{Clock}
-use Rattle.sl_machine.specs.declared.step.Records.{Records}
+use Rattle.sl_code_steps.specs.declared.step.Records.{Records}
 use Rattle.sl_machine.specs.declared.way.Standing.{Standing}
-use Rattle.sl_machine.specs.inner.Leading.{ends_run}
-use Rattle.sl_machine.specs.inner.Recording.{state_by, ending_by}
+use Rattle.sl_code_steps.specs.inner.Ends.{ends_run}
+use Rattle.sl_code_steps.specs.inner.Recording.{state_by, ending_by}
 use Rattle.sl_machine.specs.inner.Ways.{standing_from}
 
 -- the steps that are left at a place to which a run came straight

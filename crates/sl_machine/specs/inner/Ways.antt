@@ -4,8 +4,8 @@ use Rattle.sl_code_instructions.specs.Codes.{CountingCode}
 use Rattle.sl_code_instructions.specs.declared.instr.Instr.{Instr}
 use Rattle.sl_code_instructions.specs.declared.instr.Instr.TheVariants as op
 use Rattle.sl_code_semantics.specs.Frames.{records_step, records_weight}
-use Rattle.sl_machine.specs.declared.step.Records.{Records}
-use Rattle.sl_machine.specs.declared.step.Records.TheVariants as records
+use Rattle.sl_code_steps.specs.declared.step.Records.{Records}
+use Rattle.sl_code_steps.specs.declared.step.Records.TheVariants as records
 use Rattle.sl_machine.specs.declared.way.Standing.{Standing}
 use Rattle.sl_machine.specs.declared.way.Way.{Way}
 

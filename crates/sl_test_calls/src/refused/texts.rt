@@ -13,12 +13,12 @@ use crate::rows::{
     TIED_RETURNS,
 };
 use sl_code::Code;
+use sl_code_semantics::Verified;
 use sl_machine::{Ending, Memory};
 use sl_ratio::NoMemory;
 use sl_returns::read_returns;
 use sl_stages::{LegalFault, ListSeats, Returns, Table};
 use sl_table::{fault_text, into_table, short_text, stage_text, steps_text, table_of};
-use sl_verify::Verified;
 use std::alloc::Global;
 
 type Text = Result<Vec<u8>, NoMemory>;

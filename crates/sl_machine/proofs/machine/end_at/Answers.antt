@@ -4,7 +4,7 @@ use Rattle.std.proofs.lemmas.Option.{slice_get_within}
 use Rattle.std.proofs.lemmas.Result.{IfOk-weaker}
 use Rattle.sl_code_semantics.specs.Effects.{Ends, effect}
 use Rattle.sl_machine.specs.inner.Leading.{EndsWith}
-use Rattle.sl_machine.specs.inner.Stores.{state_of, end_with}
+use Rattle.sl_code_steps.specs.inner.Stores.{state_of, end_with}
 use Rattle.sl_machine.proofs.runs.Leading.{may_here, columns_here, ends_with}
 use Rattle.sl_machine.proofs.machine.end_at.Goals as goal
 

@@ -5,18 +5,18 @@ use Rattle.std.proofs.lemmas.Option.{slice_get_within}
 use Rattle.sl_base_terms.specs.declared.shape.Shape.TheVariants as shape
 use Rattle.sl_stages.specs.returns.Election.{Election}
 use Rattle.sl_code_instructions.specs.Codes.{CountingCode}
-use Rattle.sl_verify.specs.WellKinded.{IsWellKinded}
-use Rattle.sl_machine.specs.declared.step.End.{End}
-use Rattle.sl_machine.specs.declared.step.End.TheVariants as end
+use Rattle.sl_code_semantics.specs.WellKinded.{IsWellKinded}
+use Rattle.sl_code_steps.specs.declared.step.End.{End}
+use Rattle.sl_code_steps.specs.declared.step.End.TheVariants as end
 use Rattle.sl_code_semantics.specs.Agrees.{IsSafe}
 use Rattle.sl_code_semantics.specs.Fits.{FitsHalt, FitsMemory}
 use Rattle.sl_code_semantics.specs.Memories.{Held}
 use Rattle.sl_code_semantics.specs.State.{State}
 use Rattle.sl_machine.specs.inner.Leading.{FitsWith}
-use Rattle.sl_machine.specs.inner.Recording.{state_by}
-use Rattle.sl_machine.specs.inner.Stores.{Sizes, state_of}
+use Rattle.sl_code_steps.specs.inner.Recording.{state_by}
+use Rattle.sl_code_steps.specs.inner.Stores.{Sizes, state_of}
 use Rattle.sl_machine.proofs.runs.Unrecorded.{start_by}
-use Rattle.sl_machine.proofs.stores.Holding.{held_fits}
+use Rattle.sl_code_steps.proofs.stores.Holding.{held_fits}
 use Rattle.sl_code_semantics.proofs.soundness.Soundness.{starts_are_safe}
 use Rattle.sl_machine.proofs.machine.run_with.Goals as goal
 

@@ -2,7 +2,7 @@
 use Rattle.std.proofs.Common.{List, Some, sym, ap, subst, ◌∙◌}
 use Rattle.std.proofs.lemmas.Option.{slice_get_within}
 use Rattle.sl_machine.specs.declared.way.Standing.{Standing}
-use Rattle.sl_machine.specs.inner.Stores.{state_of}
+use Rattle.sl_code_steps.specs.inner.Stores.{state_of}
 use Rattle.sl_machine.specs.inner.UnderWay.{IsUnderWay, GoesOn}
 use Rattle.sl_machine.proofs.runs.Leading.{may_here, columns_here, goes_on, target_is, jumps_to}
 use Rattle.sl_machine.proofs.runs.UnderWay.{some_ahead, goes_further, jumps_further}

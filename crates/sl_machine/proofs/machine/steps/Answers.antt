@@ -1,10 +1,10 @@
 -- The run begins, and where it goes on no further it has ended, or its steps have run out.
 use Rattle.std.proofs.Common.{◌≡◌, ℕ, suc, ◌-◌, List, sym, ap, subst, ◌∙◌}
 use Rattle.sl_code_semantics.specs.Runs.{run}
-use Rattle.sl_machine.specs.declared.store.Store.{Store}
+use Rattle.sl_code_steps.specs.declared.store.Store.{Store}
 use Rattle.sl_machine.specs.declared.way.Standing.{Standing}
-use Rattle.sl_machine.specs.inner.Recording.{ending_by}
-use Rattle.sl_machine.specs.inner.Stores.{state_of}
+use Rattle.sl_code_steps.specs.inner.Recording.{ending_by}
+use Rattle.sl_code_steps.specs.inner.Stores.{state_of}
 use Rattle.sl_machine.specs.inner.UnderWay.{rest_of, steps_left}
 use Rattle.sl_machine.proofs.runs.UnderWay.{begins, ends_as_it_was}
 use Rattle.sl_machine.proofs.machine.steps.Goals as goal

@@ -1,8 +1,8 @@
 -- The run is on its way, and ends as it would have.
 use Rattle.std.proofs.Common.{◌≡◌}
 use Rattle.sl_code_semantics.specs.Runs.{run}
-use Rattle.sl_machine.specs.inner.Recording.{ending_by}
-use Rattle.sl_machine.specs.inner.Stores.{state_of, sizes_of, sizes_for}
+use Rattle.sl_code_steps.specs.inner.Recording.{ending_by}
+use Rattle.sl_code_steps.specs.inner.Stores.{state_of, sizes_of, sizes_for}
 use Rattle.sl_machine.specs.inner.UnderWay.{IsUnderWay, rest_of, work}
 use Rattle.sl_machine.proofs.machine.steps.Given as goal
 

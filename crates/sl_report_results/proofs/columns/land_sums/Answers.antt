@@ -4,8 +4,8 @@ use Rattle.std.specs.List.{range_with_len}
 use Rattle.std.proofs.lemmas.Simd.{map-map}
 use Rattle.sl_stages.specs.returns.Facts.{lands, parties, list_cell}
 use Rattle.sl_stages.specs.returns.Election.{lands_of}
-use Rattle.sl_report_results.specs.Sums.{capped}
-use Rattle.sl_report_results.proofs.Steps.{mapped_more}
+use Rattle.sl_report_parties.specs.Sums.{capped}
+use Rattle.sl_report_parties.proofs.Steps.{mapped_more}
 use Rattle.sl_report_results.proofs.columns.land_sums.Goals as goal
 
 pub loop-land-preserved : goal.loop-land-preserved

@@ -2,7 +2,7 @@ use Rattle.std.proofs.Common.{◌≡◌, map}
 use Rattle.std.specs.Prelude.{sum_by}
 use Rattle.std.specs.List.{range_with_len}
 use Rattle.sl_stages.specs.returns.Facts.{lands, list_cell}
-use Rattle.sl_report_results.specs.Sums.{capped}
+use Rattle.sl_report_parties.specs.Sums.{capped}
 use Rattle.sl_report_results.proofs.columns.party_sums.Given as goal
 
 abbrev pub invariant-loop-party : goal.invariant-loop-party

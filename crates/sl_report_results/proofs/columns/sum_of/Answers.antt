@@ -2,7 +2,7 @@ use Rattle.std.proofs.Common.{arith, ap, ◌∙◌}
 use Rattle.std.specs.Prelude.{sum}
 use Rattle.std.proofs.lemmas.List.{take_all}
 use Rattle.std.proofs.lemmas.List.Sums.{sum_by_more}
-use Rattle.sl_report_results.specs.Sums.{capped}
+use Rattle.sl_report_parties.specs.Sums.{capped}
 use Rattle.sl_report_results.proofs.columns.sum_of.Goals as goal
 
 pub loop-value-preserved : goal.loop-value-preserved

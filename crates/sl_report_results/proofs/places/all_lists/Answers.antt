@@ -1,5 +1,5 @@
 use Rattle.sl_stages.specs.meaning.Scopes.{lists_in_land}
-use Rattle.sl_report_results.proofs.Steps.{pieces_more}
+use Rattle.sl_report_parties.proofs.Steps.{pieces_more}
 use Rattle.sl_report_results.proofs.places.all_lists.Goals as goal
 
 pub loop-land-preserved : goal.loop-land-preserved

@@ -1,6 +1,6 @@
 use Rattle.sl_stages.specs.declared.fault.Item.TheVariants as item
 use Rattle.sl_stages.specs.returns.Election.{has_list}
-use Rattle.sl_report_results.proofs.Steps.{filtered_more}
+use Rattle.sl_report_parties.proofs.Steps.{filtered_more}
 use Rattle.sl_report_results.proofs.places.lists_of.Goals as goal
 
 pub loop-land-preserved : goal.loop-land-preserved

@@ -1,6 +1,6 @@
 use Rattle.sl_stages.specs.declared.fault.Item.TheVariants as item
 use Rattle.sl_stages.specs.returns.Election.{has_list}
-use Rattle.sl_report_results.proofs.Steps.{filtered_behind}
+use Rattle.sl_report_parties.proofs.Steps.{filtered_behind}
 use Rattle.sl_report_results.proofs.places.push_lists_in.Goals as goal
 
 pub loop-party-preserved : goal.loop-party-preserved

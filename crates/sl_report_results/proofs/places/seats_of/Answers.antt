@@ -1,7 +1,7 @@
 use Rattle.std.proofs.Common.{Some, arith, sym, ap, ◌∙◌}
 use Rattle.std.proofs.lemmas.Option.{slice_get-get_or}
 use Rattle.sl_report_results.specs.Places.{is_seat_of}
-use Rattle.sl_report_results.proofs.Steps.{count_next, one_if_le}
+use Rattle.sl_report_parties.proofs.Steps.{count_next, one_if_le}
 use Rattle.sl_report_results.proofs.places.seats_of.Goals as goal
 
 pub loop-step-preserved : goal.loop-step-preserved

@@ -1,6 +1,6 @@
 use Rattle.std.proofs.Common.{◌≡◌, take}
 use Rattle.std.specs.Prelude.{sum_by}
-use Rattle.sl_report_results.specs.Sums.{capped}
+use Rattle.sl_report_parties.specs.Sums.{capped}
 use Rattle.sl_report_results.proofs.scopes.seats_in.Given as goal
 
 abbrev pub invariant-loop-entry : goal.invariant-loop-entry

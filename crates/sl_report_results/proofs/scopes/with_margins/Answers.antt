@@ -3,7 +3,7 @@ use Rattle.std.specs.List.{zip}
 use Rattle.std.proofs.lemmas.List.{take_all}
 use Rattle.std.proofs.lemmas.Slice.Zip.{length-zip}
 use Rattle.sl_report_results.specs.Scopes.{with_margins}
-use Rattle.sl_report_results.proofs.Steps.{zip_at, map_next}
+use Rattle.sl_report_parties.proofs.Steps.{zip_at, map_next}
 use Rattle.sl_report_results.proofs.scopes.with_margins.Goals as goal
 
 pub loop-number-preserved : goal.loop-number-preserved

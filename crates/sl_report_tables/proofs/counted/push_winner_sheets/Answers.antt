@@ -1,6 +1,6 @@
 use Rattle.std.proofs.Common.{List, append_assoc, ap, map, refl, ◌≡◌, ◌∙◌, ◌++◌, ◌∷◌, []}
 use Rattle.sl_report_forms.specs.Tables.{table_of}
-use Rattle.sl_report_results.specs.declared.contests.Ranked.{Ranked}
+use Rattle.sl_report_parties.specs.declared.contests.Ranked.{Ranked}
 use Rattle.sl_report_tables.specs.Parties.{AreCovered, covering_table, open_table, singles_table}
 use Rattle.sl_report_tables.proofs.MoreTables.{kind_added, table_added}
 use Rattle.sl_report_tables.proofs.counted.push_winner_sheets.Goals as goal

@@ -1,6 +1,6 @@
 use Rattle.std.proofs.Common.{ap, ◌∙◌}
 use Rattle.std.specs.Prelude.{nat_lt, sum_by}
-use Rattle.sl_report_results.specs.Sums.{capped}
+use Rattle.sl_report_parties.specs.Sums.{capped}
 use Rattle.sl_report_tables.proofs.LocalSeats.{local_seats}
 use Rattle.sl_report_tables.specs.Compare.{seats_at}
 use Rattle.sl_report_tables.proofs.lists_compared.gives_seats.Goals as goal

@@ -1,7 +1,7 @@
 use Rattle.std.proofs.Common.{Some, ap, map, sym, ◌∙◌, ◌∷◌, []}
 use Rattle.std.proofs.lemmas.Option.{slice_get-get_or}
 use Rattle.std.proofs.lemmas.List.{map-append}
-use Rattle.sl_report_results.proofs.Steps.{map_next}
+use Rattle.sl_report_parties.proofs.Steps.{map_next}
 use Rattle.sl_report_tables.specs.inner.Seen.{seen, with_land}
 use Rattle.sl_report_tables.proofs.lists_compared.locals.Goals as goal
 

@@ -1,6 +1,6 @@
 use Rattle.std.proofs.Common.{arith}
 use Rattle.std.specs.List.{zip}
-use Rattle.sl_report_results.proofs.Steps.{zip_at}
+use Rattle.sl_report_parties.proofs.Steps.{zip_at}
 use Rattle.sl_report_tables.specs.Parties.{has_place, winner_row}
 use Rattle.sl_report_tables.proofs.MoreRows.{rows_kept, rows_of_pairs}
 use Rattle.sl_report_tables.proofs.parties.placed_sheet.Goals as goal

@@ -1,9 +1,9 @@
 use Rattle.std.proofs.Common.{Bor, List, Some, ap, map, ◌≡◌, ◌∙◌, ◌∷◌, []}
 use Rattle.std.specs.Prelude.{filter, option_map}
 use Rattle.sl_report_forms.specs.Tables.{table_of}
-use Rattle.sl_report_results.specs.Press.{ArePressed}
-use Rattle.sl_report_results.specs.declared.earlier.EarlierParty.{EarlierParty}
-use Rattle.sl_report_results.specs.declared.press.Pressed.{Pressed}
+use Rattle.sl_report_parties.specs.Press.{ArePressed}
+use Rattle.sl_report_parties.specs.declared.earlier.EarlierParty.{EarlierParty}
+use Rattle.sl_report_parties.specs.declared.press.Pressed.{Pressed}
 use Rattle.sl_report_tables.specs.Parties.{house_of, law_table}
 use Rattle.sl_report_tables.specs.Press.{IsLackingTable, is_whole, press_table}
 use Rattle.sl_report_tables.specs.Scopes.{scopes_table}

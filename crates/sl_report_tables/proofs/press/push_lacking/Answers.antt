@@ -1,6 +1,6 @@
 use Rattle.std.proofs.Common.{[], ap, subst, ◌++◌, ◌∷◌, ℕ}
 use Rattle.sl_report_forms.specs.Cells.{a_number, known}
-use Rattle.sl_report_results.specs.Lacking.{AreVotesFor, Lacks}
+use Rattle.sl_report_parties.specs.Lacking.{AreVotesFor, Lacks}
 use Rattle.sl_report_tables.specs.Parts.{a_name, rounded_cell}
 use Rattle.sl_report_tables.proofs.press.push_lacking.Goals as goal
 

@@ -2,7 +2,7 @@ use Rattle.std.proofs.Common.{Some, ap, arith, sym, ◌∙◌}
 use Rattle.std.proofs.lemmas.List.FromFn.{length-enumerate_from}
 use Rattle.std.proofs.lemmas.Option.{slice_get-get_or}
 use Rattle.std.specs.List.{enumerate_from}
-use Rattle.sl_report_results.proofs.ContestSteps.{numbered_at}
+use Rattle.sl_report_parties.proofs.ContestSteps.{numbered_at}
 use Rattle.sl_report_tables.specs.Stages.{stage_row}
 use Rattle.sl_report_tables.proofs.MoreRows.{rows_all, rows_next}
 use Rattle.sl_report_tables.proofs.stages.push_stages.Goals as goal

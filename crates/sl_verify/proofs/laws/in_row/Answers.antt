@@ -1,4 +1,4 @@
-use Rattle.sl_verify.proofs.PieceFacts.{comes_in_row, passed_in_row, tests_in_row}
+use Rattle.sl_code_semantics.proofs.kinds.PieceFacts.{comes_in_row, passed_in_row, tests_in_row}
 use Rattle.sl_verify.proofs.laws.in_row.Goals as goal
 
 pub returns-clause-comes : goal.returns-clause-comes

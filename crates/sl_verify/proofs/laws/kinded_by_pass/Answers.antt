@@ -1,4 +1,4 @@
-use Rattle.sl_verify.proofs.Kinded.{tests_as_passed, kinded_as_passed}
+use Rattle.sl_code_semantics.proofs.kinds.Kinded.{tests_as_passed, kinded_as_passed}
 use Rattle.sl_verify.proofs.laws.kinded_by_pass.Goals as goal
 
 pub returns-clause-tests : goal.returns-clause-tests

@@ -1,4 +1,4 @@
-use Rattle.sl_verify.proofs.PieceFacts.{passed_within, piece_within, declared_from_first}
+use Rattle.sl_code_semantics.proofs.kinds.PieceFacts.{passed_within, piece_within, declared_from_first}
 use Rattle.sl_verify.proofs.laws.pieces.Goals as goal
 
 pub returns-clause-within : goal.returns-clause-within

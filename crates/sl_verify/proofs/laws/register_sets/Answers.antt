@@ -1,4 +1,4 @@
-use Rattle.sl_verify.proofs.RegisterSets.{has_one, includes_each, each_includes}
+use Rattle.sl_code_semantics.proofs.kinds.RegisterSets.{has_one, includes_each, each_includes}
 use Rattle.sl_verify.proofs.laws.register_sets.Goals as goal
 
 pub returns-clause-one : goal.returns-clause-one

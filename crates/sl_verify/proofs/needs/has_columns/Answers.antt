@@ -1,7 +1,7 @@
 use Rattle.std.proofs.Common.{◌∙◌}
 use Rattle.sl_code_instructions.specs.Rows.{operands_of, slot_in, stage_in}
-use Rattle.sl_verify.specs.Needs.{needed_shape, suits, has_stage}
-use Rattle.sl_verify.specs.WellKinded.{context_of}
+use Rattle.sl_code_semantics.specs.Needs.{needed_shape, suits, has_stage}
+use Rattle.sl_code_semantics.specs.WellKinded.{context_of}
 use Rattle.sl_verify.proofs.Rows.{each_of_both}
 use Rattle.sl_verify.proofs.needs.has_columns.Goals as goal
 

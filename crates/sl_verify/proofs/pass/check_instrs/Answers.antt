@@ -1,7 +1,7 @@
 use Rattle.std.proofs.Common.{◌≡◌, Some, rules, refl, add-one}
-use Rattle.sl_verify.specs.Kinds.{start_kinds}
+use Rattle.sl_code_semantics.specs.Kinds.{start_kinds}
 use Rattle.sl_base_terms.specs.Tests.{first_failing}
-use Rattle.sl_verify.specs.Faults.{pass_tests}
+use Rattle.sl_code_semantics.specs.Faults.{pass_tests}
 use Rattle.sl_verify.proofs.Walking.{instr_fails, instr_passes}
 use Rattle.sl_verify.proofs.pass.check_instrs.Goals as goal
 

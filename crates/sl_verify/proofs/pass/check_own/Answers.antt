@@ -1,10 +1,10 @@
 use Rattle.std.proofs.Common.{◌≡◌, Some, rules}
 use Rattle.sl_code_instructions.specs.Rows.{target_of}
-use Rattle.sl_verify.specs.Leaves.{carried}
+use Rattle.sl_code_semantics.specs.Leaves.{carried}
 use Rattle.sl_base_terms.specs.Tests.{first_failing}
-use Rattle.sl_verify.specs.Faults.{need_tests, jump_tests, own_tests}
+use Rattle.sl_code_semantics.specs.Faults.{need_tests, jump_tests, own_tests}
 use Rattle.sl_base_terms.proofs.Tests.{fails_first}
-use Rattle.sl_verify.proofs.Passing.{judges_behind}
+use Rattle.sl_code_semantics.proofs.kinds.Passing.{judges_behind}
 use Rattle.sl_verify.proofs.pass.check_own.Goals as goal
 
 pub returns-in_err-check_needs-clause-tests : goal.returns-in_err-check_needs-clause-tests

@@ -1,0 +1,5 @@
+-- What the definitions of kinds imply.
+pub mod Passing
+pub mod Kinded
+pub mod PieceFacts
+pub mod RegisterSets

@@ -1,0 +1,2 @@
+-- How the values of this crate stand for the states of the semantics.
+pub mod inner

@@ -1,0 +1,7 @@
+pub mod Steps
+pub mod Short
+pub mod SeatSums
+pub mod Taking
+pub mod ContestSteps
+pub mod PressSteps
+pub mod LackingSteps

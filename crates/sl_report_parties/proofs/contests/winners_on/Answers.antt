@@ -1,0 +1,12 @@
+use Rattle.std.proofs.Common.{arith}
+use Rattle.sl_report_parties.specs.Ranks.{is_on}
+use Rattle.sl_report_parties.proofs.Steps.{count_next, one_if_le}
+use Rattle.sl_report_parties.proofs.contests.winners_on.Goals as goal
+
+pub loop-number-preserved : goal.loop-number-preserved
+loop-number-preserved c =
+    let more = count_next (is_on c.args.list) c.args.returns.now.wins c.loop-number.number c.win.result c.is_on.result c.win.ensures c.is_on.ensures in
+    record {
+      winners = omega (arith, more, c.loop-number.invariant.winners, c.one_if-winners.ensures);
+      few = omega (arith, one_if_le c.is_on.result, c.loop-number.invariant.few, c.one_if-winners.ensures);
+    }

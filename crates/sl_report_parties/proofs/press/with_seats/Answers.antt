@@ -1,0 +1,22 @@
+use Rattle.std.proofs.Common.{Option, ap, option_map, ℕ, ◌∙◌}
+use Rattle.sl_report_parties.specs.Press.{is_pressed, pressed_of}
+use Rattle.sl_report_parties.specs.Seats.{party_seats}
+use Rattle.sl_report_parties.specs.Parts.{part_of}
+use Rattle.sl_report_parties.specs.declared.parts.PartyPart.{PartyPart}
+use Rattle.sl_report_parties.specs.declared.press.Pressed.{Pressed}
+use Rattle.sl_report_parties.specs.declared.seats.Seats.{Seats}
+use Rattle.sl_report_parties.proofs.PressSteps.{kept_number}
+use Rattle.sl_report_parties.proofs.press.with_seats.Goals as goal
+
+pub loop-party-preserved : goal.loop-party-preserved
+loop-party-preserved c =
+    let conditions = c.args.setting.now.book.now.eligible.items in
+    let e = c.args.setting.now.returns.now in
+    let n = c.loop-party.party in
+    let earlier = option_map (λ all. all.now) c.args.earlier in
+    let with_all : Seats → PartyPart → Option ℕ → Pressed = λ s p b. record { party = n; seats = s; part = p; before = b } in
+    kept_number (pressed_of conditions c.args.table.now e earlier) is_pressed n _ _ (with_all c.seats_of.result c.part.result c.before_of.result) c.loop-party.invariant
+    c.in_ok-push_pressed.ensures
+    (ap (λ s. with_all s c.part.result c.before_of.result) c.seats_of.ensures
+    ∙ ap (λ p. with_all (party_seats c.args.table.now e n) p c.before_of.result) c.part.ensures
+    ∙ ap (λ b. with_all (party_seats c.args.table.now e n) (part_of conditions e n) b) c.before_of.ensures)

@@ -1,0 +1,12 @@
+use Rattle.std.proofs.Common.{arith}
+use Rattle.sl_report_parties.specs.Sums.{is_alone_in}
+use Rattle.sl_report_parties.proofs.Steps.{count_next, one_if_le}
+use Rattle.sl_report_parties.proofs.votes.independents_in.Goals as goal
+
+pub loop-number-preserved : goal.loop-number-preserved
+loop-number-preserved c =
+    let more = count_next (is_alone_in c.args.land) c.args.returns.now.wins c.loop-number.number c.win.result c.is_alone.result c.win.ensures c.is_alone.ensures in
+    record {
+      winners = omega (arith, more, c.loop-number.invariant.winners, c.one_if-winners.ensures);
+      few = omega (arith, one_if_le c.is_alone.result, c.loop-number.invariant.few, c.one_if-winners.ensures);
+    }

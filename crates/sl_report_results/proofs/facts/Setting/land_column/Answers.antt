@@ -1,8 +1,0 @@
-use Rattle.sl_report_results.specs.Cells.{land_cell}
-use Rattle.sl_report_results.proofs.Steps.{mapped_more}
-use Rattle.sl_report_results.proofs.facts.Setting.land_column.Goals as goal
-
-pub loop-land-preserved : goal.loop-land-preserved
-loop-land-preserved c =
-    let s = c.args.self.now in
-    mapped_more (land_cell s.book.now.eligible.items s.returns.now c.args.fact) c.loop-land.land _ _ _ c.loop-land.invariant c.in_ok-push.ensures.items c.land_cell.ensures

@@ -1,8 +1,0 @@
-use Rattle.sl_report_results.specs.Cells.{list_cell}
-use Rattle.sl_report_results.proofs.Steps.{mapped_behind}
-use Rattle.sl_report_results.proofs.facts.Setting.push_row.Goals as goal
-
-pub loop-party-preserved : goal.loop-party-preserved
-loop-party-preserved c =
-    let s = c.args.self.now in
-    mapped_behind (list_cell s.book.now.eligible.items s.returns.now c.args.fact c.args.land) c.loop-party.party c.args.cells.now.items _ _ _ c.loop-party.invariant c.in_ok-push.ensures.items c.list_cell.ensures

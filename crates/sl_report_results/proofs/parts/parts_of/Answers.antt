@@ -1,6 +1,0 @@
-use Rattle.sl_report_results.specs.Parts.{part_of}
-use Rattle.sl_report_results.proofs.Steps.{mapped_more}
-use Rattle.sl_report_results.proofs.parts.parts_of.Goals as goal
-
-pub loop-party-preserved : goal.loop-party-preserved
-loop-party-preserved c = mapped_more (part_of c.args.conditions.now c.args.returns.now) c.loop-party.party _ _ _ c.loop-party.invariant c.in_ok-push.ensures.items c.part_of.ensures

@@ -1,9 +1,0 @@
-use Rattle.std.proofs.Common.{rules}
-use Rattle.sl_report_results.specs.Press.{is_left_out, standing_of}
-use Rattle.sl_report_results.proofs.PressSteps.{kept_number}
-use Rattle.sl_report_results.proofs.press.without_condition.Goals as goal
-
-pub loop-party-preserved : goal.loop-party-preserved
-loop-party-preserved c =
-    kept_number (standing_of c.args.setting.now.book.now.eligible.items c.args.setting.now.returns.now) is_left_out c.loop-party.party _ _ _ c.loop-party.invariant
-    c.in_ok-push_left_out.ensures (search rules)

@@ -1,9 +1,0 @@
-use Rattle.std.proofs.Common.{◌≡◌, ◌≤◌, count_by, take}
-use Rattle.sl_report_results.specs.Seats.{is_open}
-use Rattle.sl_report_results.proofs.totals.open_winners.Given as goal
-
-abbrev pub invariant-loop-place : goal.invariant-loop-place
-invariant-loop-place l = record {
-  winners : l.winners ≡ count_by is_open (take l.place-index l.place-items);
-  few : l.winners ≤ l.place-index;
-}

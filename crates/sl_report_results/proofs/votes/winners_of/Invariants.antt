@@ -1,9 +1,0 @@
-use Rattle.std.proofs.Common.{◌≡◌, ◌≤◌, take, count_by}
-use Rattle.sl_report_results.specs.Sums.{is_with}
-use Rattle.sl_report_results.proofs.votes.winners_of.Given as goal
-
-abbrev pub invariant-loop-number : goal.invariant-loop-number
-invariant-loop-number l = record {
-  winners : l.winners ≡ count_by (is_with l.party) (take l.number l.returns.wins);
-  few : l.winners ≤ l.number;
-}

@@ -1,0 +1,2 @@
+-- Definitions on which no call of the desk and no law rests.
+pub mod Scanning

@@ -1,7 +1,0 @@
-use Rattle.std.proofs.Common.{◌≡◌, None, subst}
-use Rattle.sl_verify.specs.Faults.{verify_fault}
-use Rattle.sl_verify.proofs.Kinded.{kinds_have_no_fault}
-use Rattle.sl_verify.proofs.verifier.Verified.code.Goals as goal
-
-pub returns-clause-accepted : goal.returns-clause-accepted
-returns-clause-accepted c = subst (λ code. verify_fault code ≡ None) c.self.view_is (kinds_have_no_fault c.self.inside.code c.self.invariant)
