@@ -57,10 +57,11 @@ fn parts_of(end: End) -> (Option<Counted>, Option<LegalFault>)
 fn judged(alloc: Global, compared: Compared<'_>, returns: &Returns) -> Result<Judged, NoMemory>
     ensures { IfOk result (IsComparedTo returns.now compared.entry) }
 {
+    let word = String::from_str(alloc, compared.word)?;
     let outcome = outcome_of(Records::Dropped, alloc, &compared.book, returns)?;
     let (counted, fault) = parts_of(outcome.end);
     Ok(Judged {
-        word: String::from_str(alloc, compared.word)?,
+        word,
         book: compared.book,
         counted,
         fault,
@@ -270,6 +271,22 @@ fn compare_by<'a>(
     }
 }
 
+// Several books on returns of these bytes, side by side, and their text.
+fn written_comparison(
+    alloc: Global,
+    books: &[Named<'_>],
+    returns: &ReturnsVerdict,
+    bytes: &[u8],
+    names: Option<&[u8]>,
+    style: Style,
+) -> Result<Written, NoMemory>
+    ensures { IfOk result (λ w. IsComparisonBy (are_refused (option_map (λ text. text.now) names.entry)) books.now returns.now w.answer.status (map table_of w.answer.sheets.items)) }
+{
+    let inputs = digested_books(alloc, books, bytes)?;
+    let compared = compare_by(alloc, books, returns, bytes, names, style.language)?;
+    Ok(compared.written(alloc, "compare", style, inputs.as_slice())?)
+}
+
 /// Several books on the same returns, side by side. Inputs that `count` refuses are refused by the same line, the first of the books before the
 /// returns, and these before the other books. The explanation of a refused book has a line for each later one that is refused. A legal fault stands
 /// in its column. Without a book the table has no column.
@@ -282,10 +299,47 @@ pub fn compare(
 ) -> Result<Written, NoMemory>
     ensures { IfOk result (λ w. IsComparison (are_refused (option_map (λ text. text.now) names.entry)) books.now returns.now w.answer.status (map table_of w.answer.sheets.items)) }
 {
-    let inputs = digested_books(alloc, books, returns)?;
     let judged = judge_returns(alloc, returns)?;
-    let compared = compare_by(alloc, books, &judged, returns, names, style.language)?;
-    Ok(compared.written(alloc, "compare", style, inputs.as_slice())?)
+    let written = written_comparison(alloc, books, &judged, returns, names, style);
+    drop(judged);
+    written
+}
+
+// The statutes as a command line names them.
+fn statute_words(alloc: Global) -> Result<Vec<String>, NoMemory> {
+    let mut words: Vec<String> = Vec::new(alloc);
+    for statute in &STATUTES {
+        words.push(format!(in alloc; "@{}", statute.name)?)?;
+    }
+    Ok(words)
+}
+
+// The statutes, each by its word.
+fn named_statutes<'a>(alloc: Global, words: &'a [String]) -> Result<Vec<Named<'a>>, NoMemory> {
+    let mut books: Vec<Named<'_>> = Vec::new(alloc);
+    for (word, statute) in words.iter().zip(STATUTES.iter()) {
+        books.push(Named {
+            word: word.as_str(),
+            book: BookText::Library(statute.name),
+        })?;
+    }
+    Ok(books)
+}
+
+// Several books on good returns, side by side, or the line that refuses the first that is not good.
+fn compare_all(
+    alloc: Global,
+    books: &[Named<'_>],
+    returns: &Returns,
+    full: &FullNames,
+    language: Language,
+) -> Result<Answer, NoMemory>
+    ensures { IfOk result (λ a. (a.status ≡ Done) ⊎ (a.status ≡ Refused)) }
+{
+    match good_books(alloc, books)? {
+        Ok(good) => compare_judged(alloc, good, returns, full, language),
+        Err(BookRefusal { refused, .. }) => Ok(Answer::refused(alloc, refused.why().line(alloc)?)),
+    }
 }
 
 /// The statutes of the library on good returns, side by side, each by its name after `@`, with the full names of a text.
@@ -297,19 +351,7 @@ pub fn compare_statutes(
 ) -> Result<Answer, NoMemory>
     ensures { IfOk result (λ a. (a.status ≡ Done) ⊎ (a.status ≡ Refused)) }
 {
-    let mut words: Vec<String> = Vec::new(alloc);
-    for statute in &STATUTES {
-        words.push(format!(in alloc; "@{}", statute.name)?)?;
-    }
-    let mut books: Vec<Named<'_>> = Vec::new(alloc);
-    for (word, statute) in words.iter().zip(STATUTES.iter()) {
-        books.push(Named {
-            word: word.as_str(),
-            book: BookText::Library(statute.name),
-        })?;
-    }
-    match good_books(alloc, books.as_slice())? {
-        Ok(good) => compare_judged(alloc, good, returns, full, language),
-        Err(BookRefusal { refused, .. }) => Ok(Answer::refused(alloc, refused.why().line(alloc)?)),
-    }
+    let words = statute_words(alloc)?;
+    let books = named_statutes(alloc, words.as_slice())?;
+    compare_all(alloc, books.as_slice(), returns, full, language)
 }

@@ -15,6 +15,19 @@ const ALSO: Message = Message {
     german: "auch abgelehnt: $: $",
 };
 
+// A line on a rulebook that is refused: the word that names it, and the sentence of its own explanation.
+fn line_on(
+    alloc: Global,
+    language: Language,
+    word: &str,
+    own: &Explained,
+) -> Result<Vec<u8>, NoMemory> {
+    let mut shown: Vec<u8> = Vec::new(alloc);
+    push_shown(&mut shown, word.as_bytes())?;
+    let values = [shown.as_slice(), own.explanation.sentence()];
+    ALSO.text(alloc, language, &values)
+}
+
 /// Adds a line on a further rulebook of this text that is refused: the word that names it, and the sentence of its own explanation.
 pub fn add_refused(
     alloc: Global,
@@ -27,9 +40,7 @@ pub fn add_refused(
     ensures { subject_of explained.new ≡ subject_of explained.old }
 {
     let own = explain_book(alloc, language, text, refused)?;
-    let mut shown: Vec<u8> = Vec::new(alloc);
-    push_shown(&mut shown, word.as_bytes())?;
-    let values = [shown.as_slice(), own.explanation.sentence()];
-    let line = ALSO.text(alloc, language, &values)?;
-    explained.explanation.line(line)
+    let line = line_on(alloc, language, word, &own);
+    drop(own);
+    explained.explanation.line(line?)
 }

@@ -1,7 +1,9 @@
 //! The cells of a sheet.
 
+use crate::draft::{Draft, copied};
 use sl_ratio::NoMemory;
 use std::alloc::Global;
+use std::cmp::Ordering;
 
 /// A cell. A decimal number or a fraction is a text, so that no reader makes a float of it.
 #[derive(Drop)]
@@ -21,51 +23,51 @@ pub enum Cell {
 
 // Names separated by blanks, as none of them has one.
 fn listed(alloc: Global, names: &[String]) -> Result<String, NoMemory> {
-    let mut text = String::new(alloc);
+    let mut text = Draft::new(alloc);
     for name in names {
         if !text.is_empty() {
-            text.push(' ')?;
+            text.push(' ');
         }
-        text.push_str(name.as_str())?;
+        text.push_str(name.as_str());
     }
-    Ok(text)
+    text.finished()
 }
 
 // The difference of two numbers, with this sign where the first is the greater one.
 fn change_text(alloc: Global, more: &str, number: u64, before: u64) -> Result<String, NoMemory> {
-    if number < before {
-        let fewer = before - number;
-        return Ok(format!(in alloc; "-{fewer}")?);
-    }
-    let by = number - before;
-    let sign = if by > 0 { more } else { "" };
+    let sign = match number.cmp(&before) {
+        Ordering::Less => "-",
+        Ordering::Equal => "",
+        Ordering::Greater => more,
+    };
+    let by = number.abs_diff(before);
     Ok(format!(in alloc; "{sign}{by}")?)
 }
 
 impl Cell {
     /// What a program reads of the cell, whatever the language.
     pub fn key(&self, alloc: Global) -> Result<String, NoMemory> {
-        match self {
-            Cell::Word { key, .. } => Ok(String::from_str(alloc, key.as_str())?),
-            Cell::Flag { is: true, .. } => Ok(String::from_str(alloc, "yes")?),
-            Cell::Flag { is: false, .. } => Ok(String::from_str(alloc, "no")?),
-            Cell::Names { keys, .. } => listed(alloc, keys.as_slice()),
-            Cell::Change(number, before) => change_text(alloc, "", *number, *before),
-            Cell::Empty | Cell::Text(_) | Cell::Number(_) => self.shown(alloc),
-        }
+        let key = match self {
+            Cell::Word { key, .. } => key.as_str(),
+            Cell::Flag { is: true, .. } => "yes",
+            Cell::Flag { is: false, .. } => "no",
+            Cell::Names { keys, .. } => return listed(alloc, keys.as_slice()),
+            Cell::Change(number, before) => return change_text(alloc, "", *number, *before),
+            Cell::Empty | Cell::Text(_) | Cell::Number(_) => return self.shown(alloc),
+        };
+        copied(alloc, key)
     }
 
     /// What a person reads of the cell.
     pub fn shown(&self, alloc: Global) -> Result<String, NoMemory> {
-        match self {
-            Cell::Empty => Ok(String::new(alloc)),
-            Cell::Text(text) => Ok(String::from_str(alloc, text.as_str())?),
-            Cell::Number(number) => Ok(number.to_string(alloc)?),
-            Cell::Change(number, before) => change_text(alloc, "+", *number, *before),
-            Cell::Word { shown, .. } | Cell::Names { shown, .. } => {
-                Ok(String::from_str(alloc, shown.as_str())?)
-            }
-            Cell::Flag { shown, .. } => Ok(String::from_str(alloc, shown)?),
-        }
+        let shown = match self {
+            Cell::Empty => "",
+            Cell::Text(text) => text.as_str(),
+            Cell::Number(number) => return Ok(number.to_string(alloc)?),
+            Cell::Change(number, before) => return change_text(alloc, "+", *number, *before),
+            Cell::Word { shown, .. } | Cell::Names { shown, .. } => shown.as_str(),
+            Cell::Flag { shown, .. } => shown,
+        };
+        copied(alloc, shown)
     }
 }

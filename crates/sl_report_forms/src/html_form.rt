@@ -1,15 +1,16 @@
 //! Sheets as a page of HTML, for a screen of any width and for paper. It needs no other file.
 
 use crate::cell::Cell;
+use crate::draft::Draft;
 use crate::heading::Heading;
 use crate::sheet::{Look, Sheet};
-use crate::shown::{Shown, shown_of};
+use crate::shown::{Shown, ShownColumn, shown_of};
 use sl_explain_texts::{Language, Message};
 use sl_ratio::NoMemory;
 use std::alloc::Global;
 
 // The titles of the pages of the commands.
-const TITLES: [(&str, Message); 5] = [
+static TITLES: [(&str, Message); 5] = [
     (
         "report",
         Message {
@@ -48,12 +49,12 @@ const TITLES: [(&str, Message); 5] = [
 ];
 
 // The code of a language, as the head of a page names it.
-const LANGUAGE: Message = Message {
+static LANGUAGE: Message = Message {
     english: "en",
     german: "de",
 };
 
-const STYLE: &str = ":root { color-scheme: light dark; }
+static STYLE: &str = ":root { color-scheme: light dark; }
 body { max-width: 64rem; margin: 1rem auto; padding: 0 1rem; font: 1rem/1.4 system-ui, sans-serif; }
 h1 { font-size: 1.4rem; }
 h2 { font-size: 1.1rem; margin: 1.6rem 0 0.4rem; break-after: avoid; }
@@ -72,14 +73,13 @@ tr { break-inside: avoid; }
 }
 ";
 
-// The begin and the end of the tags of a cell: of the title of a column, of the first cell of a row, and of any other.
-type Tag = (&'static str, &'static str);
-
-const TITLE: Tag = ("<th scope=\"col\"", "</th>");
-
-const FIRST: Tag = ("<th scope=\"row\"", "</th>");
-
-const OTHER: Tag = ("<td", "</td>");
+// The tag of a cell: of the title of a column, of the first cell of a row, and of any other.
+#[derive(Clone, Copy)]
+enum Tag {
+    Title,
+    First,
+    Other,
+}
 
 // What stands for a character that HTML would read as markup.
 fn escaped(character: char) -> Option<&'static str> {
@@ -92,80 +92,92 @@ fn escaped(character: char) -> Option<&'static str> {
     }
 }
 
-fn put_character(out: &mut String, character: char) -> Result<(), NoMemory> {
+fn put_character(out: &mut Draft, character: char) {
     match escaped(character) {
-        Some(text) => out.push_str(text)?,
-        None => out.push(character)?,
+        Some(text) => out.push_str(text),
+        None => out.push(character),
     }
-    Ok(())
 }
 
 // Adds a text that is read as it stands.
-fn put_text(out: &mut String, text: &str) -> Result<(), NoMemory> {
+fn put_text(out: &mut Draft, text: &str) {
     for character in text.chars() {
-        put_character(out, character)?;
+        put_character(out, character);
     }
-    Ok(())
 }
 
-fn put_cell(out: &mut String, tag: Tag, look: Look, text: &str) -> Result<(), NoMemory> {
-    let (begin, end) = tag;
-    out.push_str(begin)?;
+fn put_cell(out: &mut Draft, tag: Tag, look: Look, text: &str) {
+    out.push_str(match tag {
+        Tag::Title => "<th scope=\"col\"",
+        Tag::First => "<th scope=\"row\"",
+        Tag::Other => "<td",
+    });
     out.push_str(match look {
         Look::Number => " class=\"number\">",
         Look::Hidden | Look::Text(_) => ">",
-    })?;
-    put_text(out, text)?;
-    out.push_str(end)?;
-    Ok(())
+    });
+    put_text(out, text);
+    out.push_str(match tag {
+        Tag::Title | Tag::First => "</th>",
+        Tag::Other => "</td>",
+    });
 }
 
-fn put_titles(out: &mut String, shown: &Shown) -> Result<(), NoMemory> {
-    out.push_str("<tr>")?;
-    for (look, title) in shown.looks.iter().zip(&shown.titles) {
-        put_cell(out, TITLE, *look, title.as_str())?;
+// Adds a row of cells that have these tags, the first one and the others.
+fn put_row(out: &mut Draft, first: Tag, other: Tag, columns: &[ShownColumn], row: &[String]) {
+    out.push_str("<tr>");
+    for (place, column) in columns.iter().enumerate() {
+        if let Some(text) = row.get(place) {
+            let tag = if place == 0 { first } else { other };
+            put_cell(out, tag, column.look, text.as_str());
+        }
     }
-    out.push_str("</tr>\n")?;
-    Ok(())
+    out.push_str("</tr>\n");
 }
 
-fn put_row(out: &mut String, looks: &[Look], row: &[String]) -> Result<(), NoMemory> {
-    let mut tag = FIRST;
-    out.push_str("<tr>")?;
-    for (look, text) in looks.iter().zip(row) {
-        put_cell(out, tag, *look, text.as_str())?;
-        tag = OTHER;
-    }
-    out.push_str("</tr>\n")?;
-    Ok(())
-}
-
-fn put_rows(out: &mut String, shown: &Shown) -> Result<(), NoMemory> {
+fn put_rows(out: &mut Draft, shown: &Shown) {
     for row in &shown.rows {
-        put_row(out, shown.looks.as_slice(), row.as_slice())?;
+        put_row(
+            out,
+            Tag::First,
+            Tag::Other,
+            shown.columns.as_slice(),
+            row.as_slice(),
+        );
     }
-    Ok(())
 }
 
-fn put_table(out: &mut String, shown: &Shown) -> Result<(), NoMemory> {
-    out.push_str("<div class=\"table\">\n<table>\n<thead>\n")?;
-    put_titles(out, shown)?;
-    out.push_str("</thead>\n<tbody>\n")?;
-    put_rows(out, shown)?;
-    out.push_str("</tbody>\n</table>\n</div>\n")?;
-    Ok(())
+fn put_table(out: &mut Draft, shown: &Shown) {
+    out.push_str("<div class=\"table\">\n<table>\n<thead>\n");
+    put_row(
+        out,
+        Tag::Title,
+        Tag::Title,
+        shown.columns.as_slice(),
+        shown.titles.as_slice(),
+    );
+    out.push_str("</thead>\n<tbody>\n");
+    put_rows(out, shown);
+    out.push_str("</tbody>\n</table>\n</div>\n");
 }
 
-// Adds a sheet that is shown.
-fn put_sheet(alloc: Global, out: &mut String, sheet: &Sheet) -> Result<(), NoMemory> {
-    let Some(shown) = shown_of(alloc, sheet)? else {
-        return Ok(());
-    };
-    out.push_str("<section>\n<h2>")?;
-    put_text(out, sheet.title.as_str())?;
-    out.push_str("</h2>\n")?;
-    put_table(out, &shown)?;
-    out.push_str("</section>\n")?;
+// Adds what is shown of a sheet.
+fn put_shown(out: &mut Draft, title: &str, shown: &Shown) {
+    out.push_str("<section>\n<h2>");
+    put_text(out, title);
+    out.push_str("</h2>\n");
+    put_table(out, shown);
+    out.push_str("</section>\n");
+}
+
+// Adds the sheets that are shown.
+fn put_sheets(alloc: Global, out: &mut Draft, sheets: &[Sheet]) -> Result<(), NoMemory> {
+    for sheet in sheets {
+        let shown = shown_of(alloc, sheet)?;
+        if !shown.is_empty() {
+            put_shown(out, sheet.title.as_str(), &shown);
+        }
+    }
     Ok(())
 }
 
@@ -184,51 +196,46 @@ fn law_in(sheet: &Sheet) -> Option<&str> {
     if sheet.key != "law" {
         return None;
     }
-    match sheet.rows.first()?.first()? {
-        Cell::Text(law) => Some(law.as_str()),
-        Cell::Empty
-        | Cell::Number(_)
-        | Cell::Change(_, _)
-        | Cell::Word { .. }
-        | Cell::Flag { .. }
-        | Cell::Names { .. } => None,
-    }
+    let Some(Cell::Text(law)) = sheet.rows.first()?.first() else {
+        return None;
+    };
+    Some(law.as_str())
 }
 
-// The title of a page, with the law if a sheet names it.
-fn page_title(alloc: Global, heading: &Heading<'_>, sheets: &[Sheet]) -> Result<String, NoMemory> {
-    let title = title_of(heading.language, heading.command);
-    Ok(match sheets.iter().find_map(|sheet| law_in(sheet)) {
-        Some(law) => format!(in alloc; "{title}: {law}")?,
-        None => String::from_str(alloc, title)?,
-    })
+// Adds the title of a page, with the law if a sheet names it.
+fn put_title(out: &mut Draft, heading: &Heading<'_>, sheets: &[Sheet]) {
+    put_text(out, title_of(heading.language, heading.command));
+    if let Some(law) = sheets.iter().find_map(law_in) {
+        out.push_str(": ");
+        put_text(out, law);
+    }
 }
 
 // Adds the head of a page.
-fn put_head(out: &mut String, language: Language, title: &str) -> Result<(), NoMemory> {
-    out.push_str("<!DOCTYPE html>\n<html lang=\"")?;
-    out.push_str(LANGUAGE.in_language(language))?;
-    out.push_str("\">\n<head>\n<meta charset=\"utf-8\">\n")?;
-    out.push_str("<meta name=\"viewport\" content=\"width=device-width, initial-scale=1\">\n")?;
-    out.push_str("<title>")?;
-    put_text(out, title)?;
-    out.push_str("</title>\n<style>\n")?;
-    out.push_str(STYLE)?;
-    out.push_str("</style>\n</head>\n")?;
-    Ok(())
+fn put_head(out: &mut Draft, heading: &Heading<'_>, sheets: &[Sheet]) {
+    out.push_str("<!DOCTYPE html>\n<html lang=\"");
+    out.push_str(LANGUAGE.in_language(heading.language));
+    out.push_str("\">\n<head>\n<meta charset=\"utf-8\">\n");
+    out.push_str("<meta name=\"viewport\" content=\"width=device-width, initial-scale=1\">\n");
+    out.push_str("<title>");
+    put_title(out, heading, sheets);
+    out.push_str("</title>\n<style>\n");
+    out.push_str(STYLE);
+    out.push_str("</style>\n</head>\n");
 }
 
-// Adds the heading of a page, and the line of a legal fault, if there is one.
-fn put_heading(out: &mut String, title: &str, line: Option<&str>) -> Result<(), NoMemory> {
-    out.push_str("<h1>")?;
-    put_text(out, title)?;
-    out.push_str("</h1>\n")?;
-    if let Some(line) = line {
-        out.push_str("<p><code>")?;
-        put_text(out, line)?;
-        out.push_str("</code></p>\n")?;
-    }
-    Ok(())
+// Adds the heading of a page.
+fn put_heading(out: &mut Draft, heading: &Heading<'_>, sheets: &[Sheet]) {
+    out.push_str("<h1>");
+    put_title(out, heading, sheets);
+    out.push_str("</h1>\n");
+}
+
+// Adds the line of a legal fault.
+fn put_fault(out: &mut Draft, line: &str) {
+    out.push_str("<p><code>");
+    put_text(out, line);
+    out.push_str("</code></p>\n");
 }
 
 /// Sheets as a page of HTML, under the line of a legal fault, without its end, if there is one. The same sheets and columns are shown as in text, and
@@ -239,14 +246,14 @@ pub fn html_text(
     line: Option<&str>,
     sheets: &[Sheet],
 ) -> Result<String, NoMemory> {
-    let title = page_title(alloc, heading, sheets)?;
-    let mut out = String::new(alloc);
-    put_head(&mut out, heading.language, title.as_str())?;
-    out.push_str("<body>\n")?;
-    put_heading(&mut out, title.as_str(), line)?;
-    for sheet in sheets {
-        put_sheet(alloc, &mut out, sheet)?;
+    let mut out = Draft::new(alloc);
+    put_head(&mut out, heading, sheets);
+    out.push_str("<body>\n");
+    put_heading(&mut out, heading, sheets);
+    if let Some(line) = line {
+        put_fault(&mut out, line);
     }
-    out.push_str("</body>\n</html>\n")?;
-    Ok(out)
+    let put = put_sheets(alloc, &mut out, sheets);
+    out.push_str("</body>\n</html>\n");
+    put.and(out.finished())
 }

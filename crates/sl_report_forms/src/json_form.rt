@@ -1,20 +1,21 @@
 //! Sheets as JSON: an object for each row, in one array for each key.
 
 use crate::cell::Cell;
+use crate::draft::Filled;
 use crate::heading::Heading;
 use crate::json_heading::put_heading;
-use crate::json_values::text_value;
+use crate::json_values::{Members, array_value, text_value};
 use crate::sheet::{Head, Sheet};
-use serde_json::{Map, Number, Value, push, put};
+use serde_json::{Number, Value};
 use sl_ratio::NoMemory;
 use std::alloc::Global;
 
 fn names_value(alloc: Global, names: &[String]) -> Result<Value, NoMemory> {
-    let mut values: Vec<Value> = Vec::new(alloc);
+    let mut values = Filled::new(alloc);
     for name in names {
-        push(&mut values, text_value(alloc, name.as_str())?)?;
+        values.push(text_value(alloc, name.as_str()));
     }
-    Ok(Value::Array(values))
+    array_value(values)
 }
 
 // The difference of two numbers, none of which has more than 63 bits.
@@ -39,46 +40,42 @@ fn cell_value(alloc: Global, cell: &Cell) -> Result<Value, NoMemory> {
 }
 
 fn row_value(alloc: Global, heads: &[Head], row: &[Cell]) -> Result<Value, NoMemory> {
-    let mut members = Map::new(alloc);
-    for (head, cell) in heads.iter().zip(row) {
-        let value = cell_value(alloc, cell)?;
-        put(&mut members, alloc, head.key.as_str(), value)?;
+    let mut members = Members::new(alloc);
+    for (place, cell) in row.iter().enumerate() {
+        if let Some(head) = heads.get(place) {
+            members.put(head.key.as_str(), cell_value(alloc, cell));
+        }
     }
-    Ok(Value::Object(members))
+    members.finished()
 }
 
 // Adds the rows of a sheet.
-fn push_rows(alloc: Global, rows: &mut Vec<Value>, sheet: &Sheet) -> Result<(), NoMemory> {
+fn push_rows(alloc: Global, rows: &mut Filled<Value>, sheet: &Sheet) {
     for row in &sheet.rows {
-        push(
-            rows,
-            row_value(alloc, sheet.heads.as_slice(), row.as_slice())?,
-        )?;
+        rows.push(row_value(alloc, sheet.heads.as_slice(), row.as_slice()));
     }
-    Ok(())
 }
 
 // The rows of all sheets of a key.
 fn rows_of(alloc: Global, sheets: &[Sheet], key: &str) -> Result<Value, NoMemory> {
-    let mut rows: Vec<Value> = Vec::new(alloc);
+    let mut rows = Filled::new(alloc);
     for sheet in sheets {
         if sheet.key == key {
-            push_rows(alloc, &mut rows, sheet)?;
+            push_rows(alloc, &mut rows, sheet);
         }
     }
-    Ok(Value::Array(rows))
+    array_value(rows)
 }
 
 // The tables, by their keys.
 fn tables(alloc: Global, sheets: &[Sheet]) -> Result<Value, NoMemory> {
-    let mut tables = Map::new(alloc);
+    let mut tables = Members::new(alloc);
     for sheet in sheets {
-        if !tables.contains_key(sheet.key) {
-            let rows = rows_of(alloc, sheets, sheet.key)?;
-            put(&mut tables, alloc, sheet.key, rows)?;
+        if !tables.has(sheet.key) {
+            tables.put(sheet.key, rows_of(alloc, sheets, sheet.key));
         }
     }
-    Ok(Value::Object(tables))
+    tables.finished()
 }
 
 // The text of a value, as a line.
@@ -97,8 +94,8 @@ pub fn json_text(
     line: Option<&str>,
     sheets: &[Sheet],
 ) -> Result<String, NoMemory> {
-    let mut members = Map::new(alloc);
-    put_heading(alloc, &mut members, heading, status, line)?;
-    put(&mut members, alloc, "tables", tables(alloc, sheets)?)?;
-    line_of(alloc, &Value::Object(members))
+    let mut members = Members::new(alloc);
+    put_heading(alloc, &mut members, heading, status, line);
+    members.put("tables", tables(alloc, sheets));
+    line_of(alloc, &members.finished()?)
 }

@@ -8,6 +8,7 @@
 
 mod cell;
 mod comma_form;
+mod draft;
 mod heading;
 mod html_form;
 mod json_form;

@@ -1,7 +1,8 @@
 //! Sheets as Markdown: a heading and a table for each that is shown.
 
+use crate::draft::Draft;
 use crate::sheet::{Look, Sheet};
-use crate::shown::{Shown, shown_of};
+use crate::shown::{Shown, ShownColumn, shown_of};
 use sl_ratio::NoMemory;
 use std::alloc::Global;
 
@@ -14,81 +15,82 @@ fn is_mark(character: char) -> bool {
 }
 
 // Adds a character of a text: a mark after a backslash, and a blank for the end of a line.
-fn put_character(out: &mut String, character: char) -> Result<(), NoMemory> {
+fn put_character(out: &mut Draft, character: char) {
     if is_mark(character) {
-        out.push('\\')?;
+        out.push('\\');
     }
     let is_end = character == '\n' || character == '\r';
-    out.push(if is_end { ' ' } else { character })?;
-    Ok(())
+    out.push(if is_end { ' ' } else { character });
 }
 
 // Adds a text that is read as it stands.
-fn put_text(out: &mut String, text: &str) -> Result<(), NoMemory> {
+fn put_text(out: &mut Draft, text: &str) {
     for character in text.chars() {
-        put_character(out, character)?;
+        put_character(out, character);
     }
-    Ok(())
 }
 
-fn put_cell(out: &mut String, text: &str) -> Result<(), NoMemory> {
-    out.push(' ')?;
-    put_text(out, text)?;
-    out.push_str(" |")?;
-    Ok(())
+fn put_cell(out: &mut Draft, text: &str) {
+    out.push(' ');
+    put_text(out, text);
+    out.push_str(" |");
 }
 
-fn put_line(out: &mut String, texts: &[String]) -> Result<(), NoMemory> {
-    out.push('|')?;
+fn put_line(out: &mut Draft, texts: &[String]) {
+    out.push('|');
     for text in texts {
-        put_cell(out, text.as_str())?;
+        put_cell(out, text.as_str());
     }
-    out.push('\n')?;
-    Ok(())
+    out.push('\n');
 }
 
 // Adds the line below the titles, which says of each column at which side its texts stand.
-fn put_sides(out: &mut String, looks: &[Look]) -> Result<(), NoMemory> {
-    out.push('|')?;
-    for look in looks {
-        out.push_str(match look {
+fn put_sides(out: &mut Draft, columns: &[ShownColumn]) {
+    out.push('|');
+    for column in columns {
+        out.push_str(match column.look {
             Look::Number => "---:|",
             Look::Hidden | Look::Text(_) => "---|",
-        })?;
+        });
     }
-    out.push('\n')?;
-    Ok(())
+    out.push('\n');
 }
 
-fn put_table(out: &mut String, shown: &Shown) -> Result<(), NoMemory> {
-    put_line(out, shown.titles.as_slice())?;
-    put_sides(out, shown.looks.as_slice())?;
+fn put_table(out: &mut Draft, shown: &Shown) {
+    put_line(out, shown.titles.as_slice());
+    put_sides(out, shown.columns.as_slice());
     for row in &shown.rows {
-        put_line(out, row.as_slice())?;
+        put_line(out, row.as_slice());
     }
-    Ok(())
 }
 
-// Adds a sheet that is shown, after an empty line where it is not the first one.
-fn put_sheet(alloc: Global, out: &mut String, sheet: &Sheet) -> Result<(), NoMemory> {
-    let Some(shown) = shown_of(alloc, sheet)? else {
-        return Ok(());
-    };
+// Adds what is shown of a sheet, after an empty line where it is not the first one.
+fn put_shown(out: &mut Draft, title: &str, shown: &Shown) {
     if !out.is_empty() {
-        out.push('\n')?;
+        out.push('\n');
     }
-    out.push_str("## ")?;
-    put_text(out, sheet.title.as_str())?;
-    out.push_str("\n\n")?;
-    put_table(out, &shown)
+    out.push_str("## ");
+    put_text(out, title);
+    out.push_str("\n\n");
+    put_table(out, shown);
+}
+
+// Adds the sheets that are shown.
+fn put_sheets(alloc: Global, out: &mut Draft, sheets: &[Sheet]) -> Result<(), NoMemory> {
+    for sheet in sheets {
+        let shown = shown_of(alloc, sheet)?;
+        if !shown.is_empty() {
+            put_shown(out, sheet.title.as_str(), &shown);
+        }
+    }
+    Ok(())
 }
 
 // Adds the line of a legal fault, as a block of code.
-fn put_fault(out: &mut String, line: &str) -> Result<(), NoMemory> {
-    out.push_str("    ")?;
-    out.push_str(line)?;
-    out.push('\n')?;
-    Ok(())
+fn put_fault(out: &mut Draft, line: &str) {
+    out.push_str("    ");
+    out.push_str(line);
+    out.push('\n');
 }
 
 /// Sheets as Markdown, after the line of a legal fault, without its end, if there is one. The same sheets and columns are shown as in text, and no
@@ -98,12 +100,10 @@ pub fn markdown_text(
     line: Option<&str>,
     sheets: &[Sheet],
 ) -> Result<String, NoMemory> {
-    let mut out = String::new(alloc);
+    let mut out = Draft::new(alloc);
     if let Some(line) = line {
-        put_fault(&mut out, line)?;
+        put_fault(&mut out, line);
     }
-    for sheet in sheets {
-        put_sheet(alloc, &mut out, sheet)?;
-    }
-    Ok(out)
+    let put = put_sheets(alloc, &mut out, sheets);
+    put.and(out.finished())
 }

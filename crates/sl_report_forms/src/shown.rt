@@ -1,14 +1,22 @@
 //! What a person sees of a sheet, as texts: the columns that are not hidden, and in which a row has something.
 
 use crate::cell::Cell;
+use crate::draft::{Filled, copied};
 use crate::sheet::{Head, Look, Sheet};
 use sl_ratio::NoMemory;
 use std::alloc::Global;
 
-/// The columns of a sheet that are shown: their looks, their titles, and the rows. No text is cut.
+/// A column of a sheet that is shown: its place, and its look.
+#[derive(Clone, Copy)]
+pub(crate) struct ShownColumn {
+    pub(crate) place: usize,
+    pub(crate) look: Look,
+}
+
+/// What is shown of a sheet: the columns, their titles, and the rows. No text is cut.
 #[derive(Drop)]
 pub(crate) struct Shown {
-    pub(crate) looks: Vec<Look>,
+    pub(crate) columns: Vec<ShownColumn>,
     pub(crate) titles: Vec<String>,
     pub(crate) rows: Vec<Vec<String>>,
 }
@@ -35,71 +43,70 @@ fn has_text(sheet: &Sheet, place: usize) -> bool {
     false
 }
 
-// The places of the columns that are shown: those that are not hidden, and in which a row has something.
-fn columns(alloc: Global, sheet: &Sheet) -> Result<Vec<usize>, NoMemory> {
-    let mut columns = Vec::new(alloc);
+// The columns that are shown: those that are not hidden, and in which a row has something.
+fn columns(alloc: Global, sheet: &Sheet) -> Result<Vec<ShownColumn>, NoMemory> {
+    let mut columns = Filled::new(alloc);
     for (place, head) in sheet.heads.iter().enumerate() {
-        if !is_hidden(head.look) && has_text(sheet, place) {
-            columns.push(place)?;
+        let look = head.look;
+        if !is_hidden(look) && has_text(sheet, place) {
+            columns.push(Ok(ShownColumn { place, look }));
         }
     }
-    Ok(columns)
+    columns.finished()
 }
 
-fn looks(alloc: Global, heads: &[Head], columns: &[usize]) -> Result<Vec<Look>, NoMemory> {
-    let mut looks = Vec::new(alloc);
-    for place in columns {
-        if let Some(head) = heads.get(*place) {
-            looks.push(head.look)?;
+fn titles(alloc: Global, heads: &[Head], columns: &[ShownColumn]) -> Result<Vec<String>, NoMemory> {
+    let mut titles = Filled::new(alloc);
+    for column in columns {
+        if let Some(head) = heads.get(column.place) {
+            titles.push(copied(alloc, head.title.as_str()));
         }
     }
-    Ok(looks)
-}
-
-fn titles(alloc: Global, heads: &[Head], columns: &[usize]) -> Result<Vec<String>, NoMemory> {
-    let mut titles = Vec::new(alloc);
-    for place in columns {
-        if let Some(head) = heads.get(*place) {
-            titles.push(String::from_str(alloc, head.title.as_str())?)?;
-        }
-    }
-    Ok(titles)
+    titles.finished()
 }
 
 // The texts of a row in these columns.
-fn shown_row(alloc: Global, row: &[Cell], columns: &[usize]) -> Result<Vec<String>, NoMemory> {
-    let mut texts = Vec::new(alloc);
-    for place in columns {
-        if let Some(cell) = row.get(*place) {
-            texts.push(cell.shown(alloc)?)?;
+fn shown_row(
+    alloc: Global,
+    row: &[Cell],
+    columns: &[ShownColumn],
+) -> Result<Vec<String>, NoMemory> {
+    let mut texts = Filled::new(alloc);
+    for column in columns {
+        if let Some(cell) = row.get(column.place) {
+            texts.push(cell.shown(alloc));
         }
     }
-    Ok(texts)
+    texts.finished()
 }
 
 fn shown_rows(
     alloc: Global,
     sheet: &Sheet,
-    columns: &[usize],
+    columns: &[ShownColumn],
 ) -> Result<Vec<Vec<String>>, NoMemory> {
-    let mut rows = Vec::new(alloc);
+    let mut rows = Filled::new(alloc);
     for row in &sheet.rows {
-        rows.push(shown_row(alloc, row.as_slice(), columns)?)?;
+        rows.push(shown_row(alloc, row.as_slice(), columns));
     }
-    Ok(rows)
+    rows.finished()
 }
 
-/// What is shown of a sheet; `None` for one in which no row has something in a column that is not hidden.
-pub(crate) fn shown_of(alloc: Global, sheet: &Sheet) -> Result<Option<Shown>, NoMemory> {
-    let columns = columns(alloc, sheet)?;
-    if columns.is_empty() {
-        return Ok(None);
+impl Shown {
+    /// Whether no column is shown.
+    pub(crate) fn is_empty(&self) -> bool {
+        self.columns.is_empty()
     }
-    let columns = columns.as_slice();
-    let heads = sheet.heads.as_slice();
-    Ok(Some(Shown {
-        looks: looks(alloc, heads, columns)?,
-        titles: titles(alloc, heads, columns)?,
-        rows: shown_rows(alloc, sheet, columns)?,
-    }))
+}
+
+/// What is shown of a sheet: nothing where no row has something in a column that is not hidden.
+pub(crate) fn shown_of(alloc: Global, sheet: &Sheet) -> Result<Shown, NoMemory> {
+    let columns = columns(alloc, sheet)?;
+    let titles = titles(alloc, sheet.heads.as_slice(), columns.as_slice())?;
+    let rows = shown_rows(alloc, sheet, columns.as_slice())?;
+    Ok(Shown {
+        columns,
+        titles,
+        rows,
+    })
 }

@@ -1,7 +1,8 @@
 //! Sheets as aligned text, by the columns that a terminal needs for each character.
 
+use crate::draft::{Draft, Filled};
 use crate::sheet::{Look, Sheet};
-use crate::shown::{Shown, shown_of};
+use crate::shown::{Shown, ShownColumn, shown_of};
 use sl_ratio::NoMemory;
 use std::alloc::Global;
 use unicode_width::{UnicodeWidthChar, UnicodeWidthStr};
@@ -19,52 +20,51 @@ struct Column {
 }
 
 // Adds the begin of a text that takes fewer than so many columns.
-fn put_begin(out: &mut String, text: &str, most: usize) -> Result<(), NoMemory> {
+fn put_begin(out: &mut Draft, text: &str, most: usize) {
     let mut used = 0usize;
     for character in text.chars() {
         used = used.saturating_add(character.width().unwrap_or(0));
         if used >= most {
             break;
         }
-        out.push(character)?;
+        out.push(character);
     }
-    Ok(())
 }
 
-// A text of at most so many columns: where it is longer, its begin with a mark after it.
-fn limited(alloc: Global, text: &str, most: usize) -> Result<String, NoMemory> {
-    if text.width() <= most {
-        return Ok(String::from_str(alloc, text)?);
-    }
-    let mut short = String::new(alloc);
-    put_begin(&mut short, text, most)?;
-    short.push('…')?;
-    Ok(short)
-}
-
-// A text as it is cut in a column.
+// A text as it is cut in a column: where it is longer than the column takes, its begin with a mark after it.
 fn cut(alloc: Global, look: Look, text: &str) -> Result<String, NoMemory> {
+    let mut cut = Draft::new(alloc);
     match look {
-        Look::Text(most) => limited(alloc, text, most),
-        Look::Hidden | Look::Number => Ok(String::from_str(alloc, text)?),
+        Look::Text(most) if text.width() > most => {
+            put_begin(&mut cut, text, most);
+            cut.push('…');
+        }
+        Look::Text(_) | Look::Hidden | Look::Number => cut.push_str(text),
     }
+    cut.finished()
 }
 
-fn cut_row(alloc: Global, looks: &[Look], row: &[String]) -> Result<Vec<String>, NoMemory> {
-    let mut texts = Vec::new(alloc);
-    for (look, text) in looks.iter().zip(row) {
-        texts.push(cut(alloc, *look, text.as_str())?)?;
+fn cut_row(
+    alloc: Global,
+    columns: &[ShownColumn],
+    row: &[String],
+) -> Result<Vec<String>, NoMemory> {
+    let mut texts = Filled::new(alloc);
+    for (place, column) in columns.iter().enumerate() {
+        if let Some(text) = row.get(place) {
+            texts.push(cut(alloc, column.look, text.as_str()));
+        }
     }
-    Ok(texts)
+    texts.finished()
 }
 
 // The rows with their texts cut.
 fn cut_rows(alloc: Global, shown: &Shown) -> Result<Vec<Vec<String>>, NoMemory> {
-    let mut rows = Vec::new(alloc);
+    let mut rows = Filled::new(alloc);
     for row in &shown.rows {
-        rows.push(cut_row(alloc, shown.looks.as_slice(), row.as_slice())?)?;
+        rows.push(cut_row(alloc, shown.columns.as_slice(), row.as_slice()));
     }
-    Ok(rows)
+    rows.finished()
 }
 
 // The width of the text at a place of a line, if it has one there.
@@ -86,14 +86,14 @@ fn width_at(titles: &[String], rows: &[Vec<String>], place: usize) -> usize {
 
 // The columns of these rows, each as wide as its widest text.
 fn columns(alloc: Global, shown: &Shown, rows: &[Vec<String>]) -> Result<Vec<Column>, NoMemory> {
-    let mut columns = Vec::new(alloc);
-    for (place, look) in shown.looks.iter().enumerate() {
-        columns.push(Column {
-            look: *look,
+    let mut columns = Filled::new(alloc);
+    for (place, column) in shown.columns.iter().enumerate() {
+        columns.push(Ok(Column {
+            look: column.look,
             width: width_at(shown.titles.as_slice(), rows, place),
-        })?;
+        }));
     }
-    Ok(columns)
+    columns.finished()
 }
 
 // The width of columns with the two blanks between them.
@@ -105,51 +105,52 @@ fn whole_width(columns: &[Column]) -> usize {
     width.saturating_sub(2)
 }
 
-fn put_blanks(out: &mut String, count: usize) -> Result<(), NoMemory> {
+fn put_blanks(out: &mut Draft, count: usize) {
     for _ in 0..count {
-        out.push(' ')?;
+        out.push(' ');
     }
-    Ok(())
 }
 
 // Adds a text at the left or at the right of its column, and the two blanks between columns after it.
-fn put_text(out: &mut String, text: &str, column: Column) -> Result<(), NoMemory> {
+fn put_text(out: &mut Draft, text: &str, column: Column) {
     let blanks = column.width.saturating_sub(text.width());
     let (before, behind) = match column.look {
         Look::Number => (blanks, 0),
         Look::Hidden | Look::Text(_) => (0, blanks),
     };
-    put_blanks(out, before)?;
-    out.push_str(text)?;
-    put_blanks(out, behind.saturating_add(2))
+    put_blanks(out, before);
+    out.push_str(text);
+    put_blanks(out, behind.saturating_add(2));
 }
 
 // A line, with blanks at its end.
 fn padded(alloc: Global, line: &[String], columns: &[Column]) -> Result<String, NoMemory> {
-    let mut padded = String::new(alloc);
-    for (text, column) in line.iter().zip(columns) {
-        put_text(&mut padded, text.as_str(), *column)?;
+    let mut padded = Draft::new(alloc);
+    for (place, column) in columns.iter().enumerate() {
+        if let Some(text) = line.get(place) {
+            put_text(&mut padded, text.as_str(), *column);
+        }
     }
-    Ok(padded)
+    padded.finished()
 }
 
 // Adds a line, without blanks at its end.
 fn put_line(
     alloc: Global,
-    out: &mut String,
+    out: &mut Draft,
     line: &[String],
     columns: &[Column],
 ) -> Result<(), NoMemory> {
     let padded = padded(alloc, line, columns)?;
-    out.push_str(padded.as_str().trim_end())?;
-    out.push('\n')?;
+    out.push_str(padded.as_str().trim_end());
+    out.push('\n');
     Ok(())
 }
 
 // Adds the titles of the columns, and then the rows.
 fn put_lines(
     alloc: Global,
-    out: &mut String,
+    out: &mut Draft,
     titles: &[String],
     rows: &[Vec<String>],
     columns: &[Column],
@@ -165,7 +166,7 @@ fn put_lines(
 // `WIDE`.
 fn put_wide(
     alloc: Global,
-    out: &mut String,
+    out: &mut Draft,
     shown: &Shown,
     whole: &[Column],
 ) -> Result<(), NoMemory> {
@@ -180,7 +181,7 @@ fn put_wide(
 }
 
 // Adds the titles of the columns of a sheet, and its rows.
-fn put_table(alloc: Global, out: &mut String, shown: &Shown) -> Result<(), NoMemory> {
+fn put_table(alloc: Global, out: &mut Draft, shown: &Shown) -> Result<(), NoMemory> {
     let rows = shown.rows.as_slice();
     let columns = columns(alloc, shown, rows)?;
     if whole_width(columns.as_slice()) > NARROW {
@@ -195,25 +196,30 @@ fn put_table(alloc: Global, out: &mut String, shown: &Shown) -> Result<(), NoMem
     )
 }
 
-// Adds a sheet that is shown, after an empty line where it is not the first one: its title and its table.
-fn put_sheet(alloc: Global, out: &mut String, sheet: &Sheet) -> Result<(), NoMemory> {
-    let Some(shown) = shown_of(alloc, sheet)? else {
-        return Ok(());
-    };
+// Adds what is shown of a sheet, after an empty line where it is not the first one: its title and its table.
+fn put_shown(alloc: Global, out: &mut Draft, title: &str, shown: &Shown) -> Result<(), NoMemory> {
     if !out.is_empty() {
-        out.push('\n')?;
+        out.push('\n');
     }
-    out.push_str(sheet.title.as_str())?;
-    out.push('\n')?;
-    put_table(alloc, out, &shown)
+    out.push_str(title);
+    out.push('\n');
+    put_table(alloc, out, shown)
+}
+
+fn put_sheets(alloc: Global, out: &mut Draft, sheets: &[Sheet]) -> Result<(), NoMemory> {
+    for sheet in sheets {
+        let shown = shown_of(alloc, sheet)?;
+        if !shown.is_empty() {
+            put_shown(alloc, out, sheet.title.as_str(), &shown)?;
+        }
+    }
+    Ok(())
 }
 
 /// Sheets as aligned text, with an empty line between them. One without rows, or without a column that is shown, is left
 /// out. Texts are cut where their table would be too wide.
 pub fn aligned_text(alloc: Global, sheets: &[Sheet]) -> Result<String, NoMemory> {
-    let mut out = String::new(alloc);
-    for sheet in sheets {
-        put_sheet(alloc, &mut out, sheet)?;
-    }
-    Ok(out)
+    let mut out = Draft::new(alloc);
+    let put = put_sheets(alloc, &mut out, sheets);
+    put.and(out.finished())
 }

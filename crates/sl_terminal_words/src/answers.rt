@@ -2,7 +2,7 @@
 
 use crate::help::{Form, PROGRAM, command_of, named};
 use crate::hints::hint_of;
-use crate::page::{ending_of, page_of, usage_of};
+use crate::page::{push_ending, push_page, push_usage};
 use crate::refusals::{refusal, sentence_in, tips_in};
 use crate::texts::{NO_MEMORY, TIP};
 use clap::error::ErrorKind;
@@ -39,11 +39,29 @@ impl Answer {
 }
 
 // The command of whose help words ask: the one that they begin with, or the one after `help`, or the program; `None` for that of `help` itself.
-fn helped(words: &[String]) -> Option<Form> {
+fn helped(words: &[String]) -> Option<&'static Form> {
     let first = words.get(1).map_or("", |word| word.as_str());
     match words.get(2) {
         Some(word) if first == "help" => named(word.as_str()),
-        _ => Some(command_of(words).unwrap_or(PROGRAM)),
+        _ => Some(command_of(words).unwrap_or(&PROGRAM)),
+    }
+}
+
+// Adds to the English page of `clap` the end of a help, or in place of it writes the whole help in another language.
+fn finish_help(
+    text: &mut String,
+    alloc: Global,
+    language: Language,
+    words: &[String],
+) -> Result<(), AllocError> {
+    let form = helped(words);
+    if language != Language::English {
+        text.clear();
+        push_page(text, alloc, language, form.unwrap_or(&PROGRAM))?;
+    }
+    match form {
+        Some(form) => push_ending(text, alloc, language, form),
+        None => Ok(()),
     }
 }
 
@@ -52,18 +70,17 @@ fn help(
     alloc: Global,
     language: Language,
     words: &[String],
-    page: String,
+    mut page: String,
 ) -> Result<Answer, NoMemory> {
-    let form = helped(words);
-    let mut text = if language == Language::English {
-        page
-    } else {
-        page_of(alloc, language, &form.unwrap_or(PROGRAM))?
-    };
-    if let Some(form) = form {
-        text.push_str(ending_of(alloc, language, &form)?.as_str())?;
-    }
-    Ok(Answer::Shown(text.into_bytes()))
+    finish_help(&mut page, alloc, language, words)?;
+    Ok(Answer::Shown(page.into_bytes()))
+}
+
+// How a command is called.
+fn usage_of(alloc: Global, language: Language, form: &Form) -> Result<String, AllocError> {
+    let mut text = String::new(alloc);
+    push_usage(&mut text, language, form)?;
+    Ok(text)
 }
 
 // How the program is called: in English as `clap` says it, with the name by which it was called.
@@ -87,7 +104,7 @@ fn usage(
     program: &mut Command<'_>,
 ) -> Result<String, AllocError> {
     match command_of(words) {
-        Some(form) => usage_of(alloc, language, &form),
+        Some(form) => usage_of(alloc, language, form),
         None => usage_of_program(alloc, language, program),
     }
 }

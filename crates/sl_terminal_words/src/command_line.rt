@@ -1,7 +1,7 @@
 //! The words of the command line.
 
 use crate::answers::{Answer, answer_to, refuse};
-use crate::help::{COMMANDS, Form, PROGRAM, command_of};
+use crate::help::{COMMANDS, Form, Name, PROGRAM, command_of};
 use crate::options::{Options, language_in, options_of};
 use crate::reports::{Report, ReportForm, form_of, report_of};
 use crate::texts::{NO_COMMAND, SAME_FILE, UNKNOWN_CODE};
@@ -92,14 +92,6 @@ impl Request<'_> {
             },
         }
     }
-
-    // Whether it would write over the rulebook that it reads.
-    fn overwrites_its_book(&self) -> bool {
-        match self {
-            Request::Code { book, file, .. } => book == file,
-            _ => false,
-        }
-    }
 }
 
 // A word that is given by its name.
@@ -147,8 +139,8 @@ fn with_word<'a>(
 // A command with its words and its help, but for the end of that.
 fn command<'a>(alloc: Global, language: Language, form: &Form) -> Result<Command<'a>, AllocError> {
     let mut command = Command::new(alloc, form.name).about(form.about.in_language(language));
-    for word in form.words.iter().chain(form.options) {
-        command = with_word(alloc, language, command, word)?;
+    for name in form.words.iter().chain(form.options) {
+        command = with_word(alloc, language, command, name.word())?;
     }
     Ok(command)
 }
@@ -170,7 +162,7 @@ fn with_commands<'a>(
     mut program: Command<'a>,
 ) -> Result<Command<'a>, AllocError> {
     for command in COMMANDS {
-        program = with_command(alloc, language, program, &command.form())?;
+        program = with_command(alloc, language, program, command.form())?;
     }
     Ok(program)
 }
@@ -183,11 +175,11 @@ fn program<'a>(
     words: &[String],
 ) -> Result<Command<'a>, AllocError> {
     let program = command(alloc, language, &PROGRAM)?;
-    let program = match command_of(words) {
-        Some(form) => with_command(alloc, language, program, &form)?,
-        None => with_commands(alloc, language, program)?,
-    };
-    Ok(program.version(VERSION).subcommand_required(true))
+    let program = program.version(VERSION).subcommand_required(true);
+    match command_of(words) {
+        Some(form) => with_command(alloc, language, program, form),
+        None => with_commands(alloc, language, program),
+    }
 }
 
 fn counting<'a>(show: Show<'a>, given: &ArgMatches<'a>) -> Option<Request<'a>> {
@@ -200,9 +192,13 @@ fn counting<'a>(show: Show<'a>, given: &ArgMatches<'a>) -> Option<Request<'a>> {
     })
 }
 
+// To compile a rulebook, unless the code would be written over it.
 fn compiling<'a>(given: &ArgMatches<'a>) -> Option<Request<'a>> {
     let book = given.get_str("BOOK")?;
     let file = given.get_str("OUT")?;
+    if book == file {
+        return None;
+    }
     Some(Request::Code {
         book,
         file,
@@ -222,39 +218,39 @@ fn given_code(given: &ArgMatches<'_>) -> Option<FaultCode> {
 }
 
 // What a command that does not report asks for.
-fn desk_request<'a>(command: &str, given: &ArgMatches<'a>) -> Option<Request<'a>> {
-    match command {
-        "count" => counting(Show::Seats, given),
-        "steps" => counting(Show::Steps, given),
-        "stage" => counting(Show::Stage(given.get_str("NAME")?), given),
-        "check" => Some(Request::Check {
+fn desk_request<'a>(name: Name, given: &ArgMatches<'a>) -> Option<Request<'a>> {
+    match name {
+        Name::Count => counting(Show::Seats, given),
+        Name::Steps => counting(Show::Steps, given),
+        Name::Stage => counting(Show::Stage(given.get_str("NAME")?), given),
+        Name::Check => Some(Request::Check {
             book: given.get_str("BOOK")?,
         }),
-        "code" => compiling(given),
-        "run" => running(given),
-        "law" => Some(Request::Law {
+        Name::Code => compiling(given),
+        Name::Run => running(given),
+        Name::Law => Some(Request::Law {
             name: given.get_str("NAME")?,
         }),
-        "explain" => Some(Request::Explain {
+        Name::Explain => Some(Request::Explain {
             code: given_code(given)?,
         }),
-        _ => None,
+        Name::Report | Name::Stages | Name::Totals | Name::Compare => None,
     }
 }
 
 // What a command asks for with the words given to it.
 fn request_by<'a>(
     alloc: Global,
-    command: &str,
+    name: Name,
     given: &ArgMatches<'a>,
 ) -> Result<Option<Request<'a>>, AllocError> {
-    Ok(match report_of(alloc, command, given)? {
+    Ok(match report_of(alloc, name, given)? {
         Some(what) => Some(Request::Report {
             what,
             form: form_of(given),
             names: given.get_str("names"),
         }),
-        None => desk_request(command, given),
+        None => desk_request(name, given),
     })
 }
 
@@ -263,7 +259,10 @@ fn asked_in<'a>(alloc: Global, matches: &ArgMatches<'a>) -> Result<Option<Asked<
     let Some((command, given)) = matches.subcommand() else {
         return Ok(None);
     };
-    let request = request_by(alloc, command, given)?;
+    let Some(name) = Name::of_word(command) else {
+        return Ok(None);
+    };
+    let request = request_by(alloc, name, given)?;
     Ok(request.map(|request| Asked {
         request,
         options: options_of(given),
@@ -273,8 +272,22 @@ fn asked_in<'a>(alloc: Global, matches: &ArgMatches<'a>) -> Result<Option<Asked<
 // Why words are refused that `clap` takes and that ask for nothing.
 fn unasked(matches: &ArgMatches<'_>) -> &'static Message {
     match matches.subcommand() {
+        Some(("code", _)) => &SAME_FILE,
         Some(("explain", _)) => &UNKNOWN_CODE,
         Some(_) | None => &NO_COMMAND,
+    }
+}
+
+// What the words ask for, or why they are refused that `clap` takes.
+fn asked_or_refused<'a>(
+    alloc: Global,
+    language: Language,
+    program: &mut Command<'_>,
+    matches: &ArgMatches<'a>,
+) -> Result<Result<Asked<'a>, Answer>, NoMemory> {
+    match asked_in(alloc, matches)? {
+        Some(asked) => Ok(Ok(asked)),
+        None => Ok(Err(refuse(alloc, language, program, unasked(matches))?)),
     }
 }
 
@@ -285,16 +298,9 @@ fn read_by<'a>(
     words: &'a [String],
     program: &mut Command<'a>,
 ) -> Result<Result<Asked<'a>, Answer>, NoMemory> {
-    let matches = match program.try_get_matches_from_mut(words) {
-        Ok(matches) => matches,
-        Err(error) => return Ok(Err(answer_to(alloc, language, words, program, &error)?)),
-    };
-    match asked_in(alloc, &matches)? {
-        Some(asked) if asked.request.overwrites_its_book() => {
-            Ok(Err(refuse(alloc, language, program, &SAME_FILE)?))
-        }
-        Some(asked) => Ok(Ok(asked)),
-        None => Ok(Err(refuse(alloc, language, program, unasked(&matches))?)),
+    match program.try_get_matches_from_mut(words) {
+        Ok(matches) => asked_or_refused(alloc, language, program, &matches),
+        Err(error) => Ok(Err(answer_to(alloc, language, words, program, &error)?)),
     }
 }
 

@@ -1,6 +1,6 @@
 //! The commands as a table: of each its words and options, what it reads and writes, an example, and the exit statuses.
 
-use crate::statuses::{ALL, COUNTS, READS, RUNS, TELLS};
+use crate::statuses::{ALL, COUNTS, READS, RUNS, Status, TELLS};
 use crate::texts::{
     CHECK_ABOUT, CHECK_MORE, CODE_ABOUT, CODE_MORE, COMPARE_ABOUT, COMPARE_MORE, COUNT_ABOUT,
     COUNT_MORE, EXPLAIN_ABOUT, EXPLAIN_MORE, LAW_ABOUT, LAW_MORE, PROGRAM_ABOUT, PROGRAM_MORE,
@@ -8,25 +8,23 @@ use crate::texts::{
     STAGES_MORE, STEPS_ABOUT, STEPS_MORE, TOTALS_ABOUT, TOTALS_MORE,
 };
 use crate::words::{
-    BOOK, BOOKS, CODE_FILE, CODE_OPTIONS, COMPARE_OPTIONS, COUNT_REPORT_OPTIONS, FAULT_CODE,
-    OPTIONAL_BOOK, OPTIONS, OUT, REPORT_OPTIONS, RETURNS, STAGE_NAME, STATUTE, Word,
+    CODE_OPTIONS, COMPARE_OPTIONS, COUNT_REPORT_OPTIONS, OPTIONS, REPORT_OPTIONS, WordName,
 };
 use sl_explain_texts::Message;
 
 /// A command: its name, what it does in a line, its words, its options, what it reads and writes, an example, and its exit statuses.
-#[derive(Clone, Copy)]
 pub struct Form {
     pub name: &'static str,
     pub about: Message,
-    pub words: &'static [Word],
-    pub options: &'static [Word],
+    pub words: &'static [WordName],
+    pub options: &'static [WordName],
     pub more: Message,
     pub example: &'static str,
-    pub statuses: &'static [Message],
+    pub statuses: &'static [Status],
 }
 
 /// The program itself, whose words are the commands.
-pub const PROGRAM: Form = Form {
+pub static PROGRAM: Form = Form {
     name: "seatlaw",
     about: PROGRAM_ABOUT,
     words: &[],
@@ -36,60 +34,60 @@ pub const PROGRAM: Form = Form {
     statuses: &ALL,
 };
 
-const COUNT: Form = Form {
+static COUNT: Form = Form {
     name: "count",
     about: COUNT_ABOUT,
-    words: &[BOOK, RETURNS],
+    words: &[WordName::Book, WordName::Returns],
     options: &OPTIONS,
     more: COUNT_MORE,
     example: "count @2023-order returns.csv",
     statuses: &COUNTS,
 };
 
-const STEPS: Form = Form {
+static STEPS: Form = Form {
     name: "steps",
     about: STEPS_ABOUT,
-    words: &[BOOK, RETURNS],
+    words: &[WordName::Book, WordName::Returns],
     options: &OPTIONS,
     more: STEPS_MORE,
     example: "steps @2023-order returns.csv",
     statuses: &COUNTS,
 };
 
-const STAGE: Form = Form {
+static STAGE: Form = Form {
     name: "stage",
     about: STAGE_ABOUT,
-    words: &[BOOK, RETURNS, STAGE_NAME],
+    words: &[WordName::Book, WordName::Returns, WordName::StageName],
     options: &OPTIONS,
     more: STAGE_MORE,
     example: "stage @2013 returns.csv floor",
     statuses: &COUNTS,
 };
 
-const CHECK: Form = Form {
+static CHECK: Form = Form {
     name: "check",
     about: CHECK_ABOUT,
-    words: &[BOOK],
+    words: &[WordName::Book],
     options: &OPTIONS,
     more: CHECK_MORE,
     example: "check book.law",
     statuses: &READS,
 };
 
-const CODE: Form = Form {
+static CODE: Form = Form {
     name: "code",
     about: CODE_ABOUT,
-    words: &[BOOK, OUT],
+    words: &[WordName::Book, WordName::Out],
     options: &CODE_OPTIONS,
     more: CODE_MORE,
     example: "code book.law book.slc",
     statuses: &READS,
 };
 
-const RUN: Form = Form {
+static RUN: Form = Form {
     name: "run",
     about: RUN_ABOUT,
-    words: &[CODE_FILE, RETURNS],
+    words: &[WordName::CodeFile, WordName::Returns],
     options: &OPTIONS,
     more: RUN_MORE,
     example: "run book.slc returns.csv",
@@ -99,60 +97,60 @@ const RUN: Form = Form {
 /// The name of the command that writes a statute.
 pub(crate) const LAW_NAME: &str = "law";
 
-const LAW: Form = Form {
+static LAW: Form = Form {
     name: LAW_NAME,
     about: LAW_ABOUT,
-    words: &[STATUTE],
+    words: &[WordName::Statute],
     options: &OPTIONS,
     more: LAW_MORE,
     example: "law 2023-order",
     statuses: &READS,
 };
 
-const EXPLAIN: Form = Form {
+static EXPLAIN: Form = Form {
     name: "explain",
     about: EXPLAIN_ABOUT,
-    words: &[FAULT_CODE],
+    words: &[WordName::FaultCode],
     options: &OPTIONS,
     more: EXPLAIN_MORE,
     example: "explain B15",
     statuses: &TELLS,
 };
 
-const REPORT: Form = Form {
+static REPORT: Form = Form {
     name: "report",
     about: REPORT_ABOUT,
-    words: &[BOOK, RETURNS],
+    words: &[WordName::Book, WordName::Returns],
     options: &COUNT_REPORT_OPTIONS,
     more: REPORT_MORE,
     example: "report @2023-order returns.csv",
     statuses: &COUNTS,
 };
 
-const STAGES: Form = Form {
+static STAGES: Form = Form {
     name: "stages",
     about: STAGES_ABOUT,
-    words: &[BOOK, RETURNS],
+    words: &[WordName::Book, WordName::Returns],
     options: &REPORT_OPTIONS,
     more: STAGES_MORE,
     example: "stages @2013 returns.csv",
     statuses: &COUNTS,
 };
 
-const TOTALS: Form = Form {
+static TOTALS: Form = Form {
     name: "totals",
     about: TOTALS_ABOUT,
-    words: &[RETURNS, OPTIONAL_BOOK],
+    words: &[WordName::Returns, WordName::OptionalBook],
     options: &REPORT_OPTIONS,
     more: TOTALS_MORE,
     example: "totals returns.csv @2023-order",
     statuses: &READS,
 };
 
-const COMPARE: Form = Form {
+static COMPARE: Form = Form {
     name: "compare",
     about: COMPARE_ABOUT,
-    words: &[RETURNS, BOOKS],
+    words: &[WordName::Returns, WordName::Books],
     options: &COMPARE_OPTIONS,
     more: COMPARE_MORE,
     example: "compare returns.csv @2013 @2023-order",
@@ -177,21 +175,31 @@ pub(crate) enum Name {
 }
 
 impl Name {
+    /// The command that a word names, if it names one.
+    pub(crate) fn of_word(word: &str) -> Option<Name> {
+        for name in COMMANDS {
+            if name.form().name == word {
+                return Some(name);
+            }
+        }
+        None
+    }
+
     /// The command.
-    pub(crate) fn form(self) -> Form {
+    pub(crate) fn form(self) -> &'static Form {
         match self {
-            Name::Count => COUNT,
-            Name::Steps => STEPS,
-            Name::Stage => STAGE,
-            Name::Check => CHECK,
-            Name::Code => CODE,
-            Name::Run => RUN,
-            Name::Law => LAW,
-            Name::Explain => EXPLAIN,
-            Name::Report => REPORT,
-            Name::Stages => STAGES,
-            Name::Totals => TOTALS,
-            Name::Compare => COMPARE,
+            Name::Count => &COUNT,
+            Name::Steps => &STEPS,
+            Name::Stage => &STAGE,
+            Name::Check => &CHECK,
+            Name::Code => &CODE,
+            Name::Run => &RUN,
+            Name::Law => &LAW,
+            Name::Explain => &EXPLAIN,
+            Name::Report => &REPORT,
+            Name::Stages => &STAGES,
+            Name::Totals => &TOTALS,
+            Name::Compare => &COMPARE,
         }
     }
 }
@@ -213,17 +221,11 @@ pub(crate) const COMMANDS: [Name; 12] = [
 ];
 
 /// The command of a name.
-pub(crate) fn named(name: &str) -> Option<Form> {
-    for command in COMMANDS {
-        let form = command.form();
-        if form.name == name {
-            return Some(form);
-        }
-    }
-    None
+pub(crate) fn named(name: &str) -> Option<&'static Form> {
+    Some(Name::of_word(name)?.form())
 }
 
 /// The command that the words begin with, if they begin with one.
-pub(crate) fn command_of(words: &[String]) -> Option<Form> {
+pub(crate) fn command_of(words: &[String]) -> Option<&'static Form> {
     named(words.get(1)?.as_str())
 }

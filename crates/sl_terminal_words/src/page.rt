@@ -5,7 +5,7 @@ use crate::texts::{
     ALL_STATUSES, COMMAND, EXAMPLE, HELP_COMMAND, NO_ELECTION, SOME_OPTIONS, STATUSES,
     TITLE_OF_COMMANDS, TITLE_OF_OPTIONS, TITLE_OF_STATUTES, TITLE_OF_WORDS, USAGE, VALUES,
 };
-use crate::words::{Given, HELP, VERSION, Word};
+use crate::words::{Given, HELP_NAME, Word, WordName};
 use sl_explain_texts::Language;
 use sl_laws::{ELECTIONS, STATUTES, Statute};
 use std::alloc::{AllocError, Global};
@@ -17,21 +17,51 @@ struct Row {
     said: String,
 }
 
-// How a word is written.
-fn shown(alloc: Global, language: Language, word: &Word) -> Result<String, AllocError> {
+impl Row {
+    fn new(alloc: Global) -> Row {
+        Row {
+            shown: String::new(alloc),
+            said: String::new(alloc),
+        }
+    }
+}
+
+fn push_parts(text: &mut String, parts: &[&str]) -> Result<(), AllocError> {
+    for part in parts {
+        text.push_str(part)?;
+    }
+    Ok(())
+}
+
+// What stands before and behind the name of a word, where it is written without a letter or a value.
+fn marks(given: &Given) -> (&'static str, &'static str) {
+    match given {
+        Given::Needed => ("<", ">"),
+        Given::Optional => ("[", "]"),
+        Given::Repeated => ("[", "]..."),
+        _ => ("    --", ""),
+    }
+}
+
+// Adds how a word is written.
+fn push_shown(text: &mut String, language: Language, word: &Word) -> Result<(), AllocError> {
     let name = word.name;
-    match word.given {
-        Given::Needed => format!(in alloc; "<{name}>"),
-        Given::Optional => format!(in alloc; "[{name}]"),
-        Given::Repeated => format!(in alloc; "[{name}]..."),
-        Given::Flag(_) => format!(in alloc; "    --{name}"),
-        Given::Letter(letter) => format!(in alloc; "-{letter}, --{name}"),
+    match &word.given {
+        Given::Letter(letter) => {
+            text.push_str("-")?;
+            text.push(*letter)?;
+            push_parts(text, &[", --", name])
+        }
         Given::Value(value)
         | Given::Beside(value, _)
         | Given::Choice(value, _)
         | Given::Choices(value, _, _) => {
             let value = value.in_language(language);
-            format!(in alloc; "    --{name} <{value}>")
+            push_parts(text, &["    --", name, " <", value, ">"])
+        }
+        given => {
+            let (before, behind) = marks(given);
+            push_parts(text, &[before, name, behind])
         }
     }
 }
@@ -47,58 +77,73 @@ fn push_values(text: &mut String, language: Language, values: &[&str]) -> Result
     text.push_str("]")
 }
 
-// What a word stands for, with the values that it may have.
-fn said(alloc: Global, language: Language, word: &Word) -> Result<String, AllocError> {
-    let mut text = String::from_str(alloc, word.help.in_language(language))?;
-    if let Given::Choice(_, values) | Given::Choices(_, values, _) = word.given {
-        push_values(&mut text, language, values)?;
+// Adds what a word stands for, with the values that it may have.
+fn push_said(text: &mut String, language: Language, word: &Word) -> Result<(), AllocError> {
+    text.push_str(word.help.in_language(language))?;
+    match word.given {
+        Given::Choice(_, values) | Given::Choices(_, values, _) => {
+            push_values(text, language, values)
+        }
+        _ => Ok(()),
     }
-    Ok(text)
 }
 
-// The rows of words.
-fn rows_of(alloc: Global, language: Language, words: &[Word]) -> Result<Vec<Row>, AllocError> {
-    let mut rows = Vec::new(alloc);
-    for word in words {
-        rows.push(Row {
-            shown: shown(alloc, language, word)?,
-            said: said(alloc, language, word)?,
-        })?;
-    }
-    Ok(rows)
+fn row_of_word(alloc: Global, language: Language, word: &Word) -> Result<Row, AllocError> {
+    let mut row = Row::new(alloc);
+    push_shown(&mut row.shown, language, word)?;
+    push_said(&mut row.said, language, word)?;
+    Ok(row)
 }
 
-fn command_row(alloc: Global, name: &str, about: &str) -> Result<Row, AllocError> {
-    Ok(Row {
-        shown: String::from_str(alloc, name)?,
-        said: String::from_str(alloc, about)?,
-    })
+fn row_of(alloc: Global, shown: &str, said: &str) -> Result<Row, AllocError> {
+    let mut row = Row::new(alloc);
+    row.shown.push_str(shown)?;
+    row.said.push_str(said)?;
+    Ok(row)
+}
+
+// Adds a row that was made.
+fn push_made(rows: &mut Vec<Row>, row: Result<Row, AllocError>) -> Result<(), AllocError> {
+    rows.push(row?)?;
+    Ok(())
+}
+
+// Adds the rows of words.
+fn push_rows(
+    rows: &mut Vec<Row>,
+    alloc: Global,
+    language: Language,
+    words: &[WordName],
+) -> Result<(), AllocError> {
+    for name in words {
+        push_made(rows, row_of_word(alloc, language, name.word()))?;
+    }
+    Ok(())
 }
 
 // The rows of the commands, and of the one that `clap` adds.
 fn command_rows(alloc: Global, language: Language) -> Result<Vec<Row>, AllocError> {
     let mut rows = Vec::new(alloc);
-    for command in COMMANDS {
+    for command in &COMMANDS {
         let form = command.form();
         let about = form.about.in_language(language);
-        rows.push(command_row(alloc, form.name, about)?)?;
+        push_made(&mut rows, row_of(alloc, form.name, about))?;
     }
     let about = HELP_COMMAND.in_language(language);
-    rows.push(command_row(alloc, HELP.name, about)?)?;
+    push_made(&mut rows, row_of(alloc, HELP_NAME, about))?;
     Ok(rows)
 }
 
 // The rows of the options, with those that `clap` adds.
 fn option_rows(alloc: Global, language: Language, form: &Form) -> Result<Vec<Row>, AllocError> {
-    let mut rows = rows_of(alloc, language, form.options)?;
-    let added = if form.words.is_empty() {
-        rows_of(alloc, language, &[HELP, VERSION])?
+    let mut rows = Vec::new(alloc);
+    push_rows(&mut rows, alloc, language, form.options)?;
+    let added: &[WordName] = if form.words.is_empty() {
+        &[WordName::Help, WordName::Version]
     } else {
-        rows_of(alloc, language, &[HELP])?
+        &[WordName::Help]
     };
-    for row in added {
-        rows.push(row)?;
-    }
+    push_rows(&mut rows, alloc, language, added)?;
     Ok(rows)
 }
 
@@ -118,13 +163,11 @@ fn widest(rows: &[Row]) -> usize {
 // A row whose second column begins after so many characters.
 fn push_row(text: &mut String, row: &Row, most: usize) -> Result<(), AllocError> {
     let shown = row.shown.as_str();
-    text.push_str("\n  ")?;
-    text.push_str(shown)?;
+    push_parts(text, &["\n  ", shown])?;
     for _ in width(shown)..most {
         text.push_str(" ")?;
     }
-    text.push_str("  ")?;
-    text.push_str(row.said.as_str())
+    push_parts(text, &["  ", row.said.as_str()])
 }
 
 // A list under its title, if it has rows.
@@ -140,9 +183,8 @@ fn push_list(text: &mut String, title: &str, rows: &[Row]) -> Result<(), AllocEr
     Ok(())
 }
 
-// The years of the elections that were held under a statute.
-fn years_of(alloc: Global, statute: &Statute) -> Result<String, AllocError> {
-    let mut years = String::new(alloc);
+// Adds the years of the elections that were held under a statute.
+fn push_years(years: &mut String, statute: &Statute) -> Result<(), AllocError> {
     for (year, under) in &ELECTIONS {
         if *under == Some(statute.name) {
             if !years.is_empty() {
@@ -151,102 +193,156 @@ fn years_of(alloc: Global, statute: &Statute) -> Result<String, AllocError> {
             years.push_str(year)?;
         }
     }
-    Ok(years)
+    Ok(())
 }
 
-// The rows of the statutes, each with its elections.
+// The row of a statute, with its elections.
+fn row_of_statute(alloc: Global, language: Language, statute: &Statute) -> Result<Row, AllocError> {
+    let mut row = row_of(alloc, statute.name, "")?;
+    push_years(&mut row.said, statute)?;
+    if row.said.is_empty() {
+        row.said.push_str(NO_ELECTION.in_language(language))?;
+    }
+    Ok(row)
+}
+
 fn statute_rows(alloc: Global, language: Language) -> Result<Vec<Row>, AllocError> {
     let mut rows = Vec::new(alloc);
     for statute in &STATUTES {
-        let years = years_of(alloc, statute)?;
-        let said = if years.is_empty() {
-            String::from_str(alloc, NO_ELECTION.in_language(language))?
-        } else {
-            years
-        };
-        rows.push(Row {
-            shown: String::from_str(alloc, statute.name)?,
-            said,
-        })?;
+        push_made(&mut rows, row_of_statute(alloc, language, statute))?;
     }
     Ok(rows)
 }
 
-/// How a command is called, with a title.
-pub(crate) fn usage_of(
-    alloc: Global,
-    language: Language,
-    form: &Form,
-) -> Result<String, AllocError> {
-    let mut text = String::from_str(alloc, USAGE.in_language(language))?;
-    if form.words.is_empty() {
-        text.push_str(form.name)?;
-        text.push_str(COMMAND.in_language(language))?;
-        return Ok(text);
-    }
-    text.push_str("seatlaw ")?;
-    text.push_str(form.name)?;
-    text.push_str(SOME_OPTIONS.in_language(language))?;
-    for word in form.words {
+// Adds the words of a command, each behind a space.
+fn push_call(text: &mut String, language: Language, words: &[WordName]) -> Result<(), AllocError> {
+    for name in words {
         text.push_str(" ")?;
-        text.push_str(shown(alloc, language, word)?.as_str())?;
+        push_shown(text, language, name.word())?;
     }
-    Ok(text)
+    Ok(())
 }
 
-/// What stands at the end of a help: what is read and written, an example, and the exit statuses.
-pub(crate) fn ending_of(
+/// Adds how a command is called, with a title.
+pub(crate) fn push_usage(
+    text: &mut String,
+    language: Language,
+    form: &Form,
+) -> Result<(), AllocError> {
+    let (program, rest) = if form.words.is_empty() {
+        ("", &COMMAND)
+    } else {
+        ("seatlaw ", &SOME_OPTIONS)
+    };
+    let title = USAGE.in_language(language);
+    push_parts(
+        text,
+        &[title, program, form.name, rest.in_language(language)],
+    )?;
+    push_call(text, language, form.words)
+}
+
+// Adds the statutes, to the help of the command that writes one.
+fn push_statutes(
+    text: &mut String,
     alloc: Global,
     language: Language,
     form: &Form,
-) -> Result<String, AllocError> {
+) -> Result<(), AllocError> {
+    if form.name != LAW_NAME {
+        return Ok(());
+    }
+    let rows = statute_rows(alloc, language)?;
+    push_list(
+        text,
+        TITLE_OF_STATUTES.in_language(language),
+        rows.as_slice(),
+    )
+}
+
+// Adds the exit statuses.
+fn push_statuses(text: &mut String, language: Language, form: &Form) -> Result<(), AllocError> {
     let title = if form.words.is_empty() {
         &ALL_STATUSES
     } else {
         &STATUSES
     };
-    let mut text = String::from_str(alloc, "\n")?;
-    text.push_str(form.more.in_language(language))?;
-    if form.name == LAW_NAME {
-        let title = TITLE_OF_STATUTES.in_language(language);
-        push_list(&mut text, title, statute_rows(alloc, language)?.as_slice())?;
-    }
-    text.push_str(EXAMPLE.in_language(language))?;
-    text.push_str(form.example)?;
     text.push_str(title.in_language(language))?;
     for status in form.statuses {
-        text.push_str("\n")?;
-        text.push_str(status.in_language(language))?;
+        push_parts(text, &["\n", status.said().in_language(language)])?;
     }
-    text.push_str("\n")?;
-    Ok(text)
+    text.push_str("\n")
 }
 
-/// The help of a command without its end, as `clap` writes the English one.
-pub(crate) fn page_of(
+/// Adds what stands at the end of a help: what is read and written, an example, and the exit statuses.
+pub(crate) fn push_ending(
+    text: &mut String,
     alloc: Global,
     language: Language,
     form: &Form,
-) -> Result<String, AllocError> {
-    let mut text = String::from_str(alloc, form.about.in_language(language))?;
-    text.push_str("\n\n")?;
-    text.push_str(usage_of(alloc, language, form)?.as_str())?;
-    if form.words.is_empty() {
-        let title = TITLE_OF_COMMANDS.in_language(language);
-        push_list(&mut text, title, command_rows(alloc, language)?.as_slice())?;
+) -> Result<(), AllocError> {
+    push_parts(text, &["\n", form.more.in_language(language)])?;
+    push_statutes(text, alloc, language, form)?;
+    push_parts(text, &[EXAMPLE.in_language(language), form.example])?;
+    push_statuses(text, language, form)
+}
+
+// Adds the commands, to the help of the program.
+fn push_commands(
+    text: &mut String,
+    alloc: Global,
+    language: Language,
+    form: &Form,
+) -> Result<(), AllocError> {
+    if !form.words.is_empty() {
+        return Ok(());
     }
-    let title = TITLE_OF_WORDS.in_language(language);
+    let rows = command_rows(alloc, language)?;
     push_list(
-        &mut text,
-        title,
-        rows_of(alloc, language, form.words)?.as_slice(),
-    )?;
-    let title = TITLE_OF_OPTIONS.in_language(language);
+        text,
+        TITLE_OF_COMMANDS.in_language(language),
+        rows.as_slice(),
+    )
+}
+
+// Adds the words of a command.
+fn push_words(
+    text: &mut String,
+    alloc: Global,
+    language: Language,
+    form: &Form,
+) -> Result<(), AllocError> {
+    let mut rows = Vec::new(alloc);
+    push_rows(&mut rows, alloc, language, form.words)?;
+    push_list(text, TITLE_OF_WORDS.in_language(language), rows.as_slice())
+}
+
+// Adds the options of a command.
+fn push_options(
+    text: &mut String,
+    alloc: Global,
+    language: Language,
+    form: &Form,
+) -> Result<(), AllocError> {
+    let rows = option_rows(alloc, language, form)?;
     push_list(
-        &mut text,
-        title,
-        option_rows(alloc, language, form)?.as_slice(),
-    )?;
-    text.push_str("\n")?;
-    Ok(text)
+        text,
+        TITLE_OF_OPTIONS.in_language(language),
+        rows.as_slice(),
+    )
+}
+
+/// Adds the help of a command without its end, as `clap` writes the English one.
+pub(crate) fn push_page(
+    text: &mut String,
+    alloc: Global,
+    language: Language,
+    form: &Form,
+) -> Result<(), AllocError> {
+    push_parts(text, &[form.about.in_language(language), "\n\n"])?;
+    push_usage(text, language, form)?;
+    push_commands(text, alloc, language, form)?;
+    push_words(text, alloc, language, form)?;
+    push_options(text, alloc, language, form)?;
+    text.push_str("\n")
 }

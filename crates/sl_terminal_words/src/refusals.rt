@@ -138,18 +138,29 @@ pub(crate) fn sentence_in(
     Ok(translated(alloc, language, &SENTENCES, sentence)?.unwrap_or(Vec::new(alloc)))
 }
 
+// Adds the tip in a line of the text of a refusal of `clap`, if it has one: with an empty line before the first.
+fn push_tip(
+    tips: &mut Vec<u8>,
+    alloc: Global,
+    language: Language,
+    line: &str,
+) -> Result<(), NoMemory> {
+    let tip = line.strip_prefix("  tip: ").unwrap_or("");
+    let Some(tip) = translated(alloc, language, &TIPS, tip)? else {
+        return Ok(());
+    };
+    if tips.is_empty() {
+        append(tips, &[b"\n"])?;
+    }
+    let line = TIP.text(alloc, language, &[tip.as_slice()])?;
+    append(tips, &[line.as_slice()])
+}
+
 /// The tips in the text of a refusal of `clap` in another language, each in a line, with an empty line before them if there are any.
 pub(crate) fn tips_in(alloc: Global, language: Language, text: &str) -> Result<Vec<u8>, NoMemory> {
     let mut tips = Vec::new(alloc);
     for line in text.split('\n') {
-        let tip = line.strip_prefix("  tip: ").unwrap_or("");
-        if let Some(tip) = translated(alloc, language, &TIPS, tip)? {
-            if tips.is_empty() {
-                append(&mut tips, &[b"\n"])?;
-            }
-            let line = TIP.text(alloc, language, &[tip.as_slice()])?;
-            append(&mut tips, &[line.as_slice()])?;
-        }
+        push_tip(&mut tips, alloc, language, line)?;
     }
     Ok(tips)
 }

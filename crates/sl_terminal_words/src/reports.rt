@@ -1,5 +1,6 @@
 //! The words of the commands that report.
 
+use crate::help::Name;
 use clap::ArgMatches;
 use std::alloc::{AllocError, Global};
 
@@ -72,37 +73,50 @@ fn values_of<'a>(
     }
 }
 
-/// What a command reports with the words given to it; `None` for one that does not report.
-pub(crate) fn report_of<'a>(
-    alloc: Global,
-    command: &str,
-    given: &ArgMatches<'a>,
-) -> Result<Option<Report<'a>>, AllocError> {
+// What `compare` reports.
+fn comparing<'a>(alloc: Global, given: &ArgMatches<'a>) -> Result<Option<Report<'a>>, AllocError> {
     let Some(returns) = given.get_str("RETURNS") else {
         return Ok(None);
     };
+    let books = values_of(alloc, given, "BOOK")?;
+    Ok(Some(Report::Compare {
+        returns,
+        books,
+        methods: values_of(alloc, given, "method")?,
+    }))
+}
+
+// What a command reports of one rulebook.
+fn reporting<'a>(name: Name, given: &ArgMatches<'a>) -> Option<Report<'a>> {
+    let returns = given.get_str("RETURNS")?;
     let book = given.get_str("BOOK");
-    Ok(match (command, book) {
-        ("report", Some(book)) if given.get_flag("short") => {
-            let before = given.get_str("before");
-            Some(Report::Short {
-                book,
-                returns,
-                before,
-            })
-        }
-        ("report", Some(book)) => Some(Report::Count { book, returns }),
-        ("stages", Some(book)) => Some(Report::Stages { book, returns }),
-        ("totals", book) => Some(Report::Totals { returns, book }),
-        ("compare", _) => {
-            let books = values_of(alloc, given, "BOOK")?;
-            let methods = values_of(alloc, given, "method")?;
-            Some(Report::Compare {
-                returns,
-                books,
-                methods,
-            })
-        }
+    match name {
+        Name::Report if given.get_flag("short") => Some(Report::Short {
+            book: book?,
+            returns,
+            before: given.get_str("before"),
+        }),
+        Name::Report => Some(Report::Count {
+            book: book?,
+            returns,
+        }),
+        Name::Stages => Some(Report::Stages {
+            book: book?,
+            returns,
+        }),
+        Name::Totals => Some(Report::Totals { returns, book }),
         _ => None,
-    })
+    }
+}
+
+/// What a command reports with the words given to it; `None` for one that does not report.
+pub(crate) fn report_of<'a>(
+    alloc: Global,
+    name: Name,
+    given: &ArgMatches<'a>,
+) -> Result<Option<Report<'a>>, AllocError> {
+    match name {
+        Name::Compare => comparing(alloc, given),
+        _ => Ok(reporting(name, given)),
+    }
 }

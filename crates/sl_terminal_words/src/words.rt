@@ -32,103 +32,103 @@ pub enum Given {
 }
 
 /// A word of a command: its name, how it is given, and what it stands for.
-#[derive(Clone, Copy)]
 pub struct Word {
     pub name: &'static str,
     pub given: Given,
     pub help: Message,
 }
 
-pub(crate) const BOOK: Word = Word {
+static BOOK: Word = Word {
     name: "BOOK",
     given: Given::Needed,
     help: BOOK_HELP,
 };
 
-pub(crate) const OPTIONAL_BOOK: Word = Word {
+static OPTIONAL_BOOK: Word = Word {
+    name: "BOOK",
     given: Given::Optional,
-    ..BOOK
+    help: BOOK_HELP,
 };
 
-pub(crate) const BOOKS: Word = Word {
+static BOOKS: Word = Word {
     name: "BOOK",
     given: Given::Repeated,
     help: BOOKS_HELP,
 };
 
-pub(crate) const RETURNS: Word = Word {
+static RETURNS: Word = Word {
     name: "RETURNS",
     given: Given::Needed,
     help: RETURNS_HELP,
 };
 
-pub(crate) const STAGE_NAME: Word = Word {
+static STAGE_NAME: Word = Word {
     name: "NAME",
     given: Given::Needed,
     help: STAGE_NAME_HELP,
 };
 
-pub(crate) const OUT: Word = Word {
+static OUT: Word = Word {
     name: "OUT",
     given: Given::Needed,
     help: OUT_HELP,
 };
 
-pub(crate) const CODE_FILE: Word = Word {
+static CODE_FILE: Word = Word {
     name: "CODE",
     given: Given::Needed,
     help: CODE_FILE_HELP,
 };
 
-pub(crate) const STATUTE: Word = Word {
+static STATUTE: Word = Word {
     name: "NAME",
     given: Given::Needed,
     help: STATUTE_HELP,
 };
 
-pub(crate) const FAULT_CODE: Word = Word {
+static FAULT_CODE: Word = Word {
     name: "CODE",
     given: Given::Needed,
     help: FAULT_CODE_HELP,
 };
 
-const SHORT: Word = Word {
+static SHORT: Word = Word {
     name: "short",
     given: Given::Flag(&[]),
     help: SHORT_HELP,
 };
 
-const MARKDOWN: Word = Word {
+static MARKDOWN: Word = Word {
     name: "markdown",
     given: Given::Flag(&[]),
     help: MARKDOWN_HELP,
 };
 
-const HTML: Word = Word {
+static HTML: Word = Word {
     name: "html",
     given: Given::Flag(&["markdown"]),
     help: HTML_HELP,
 };
 
-const JSON: Word = Word {
+static JSON: Word = Word {
     name: "json",
     given: Given::Flag(&["markdown", "html"]),
     help: JSON_HELP,
 };
 
-const CSV: Word = Word {
+static CSV: Word = Word {
     name: "csv",
     given: Given::Flag(&["markdown", "html", "json"]),
     help: CSV_HELP,
 };
 
-const BEFORE: Word = Word {
+static BEFORE: Word = Word {
     name: "before",
     given: Given::Beside(FILE_VALUE, "short"),
     help: BEFORE_HELP,
 };
 
-const METHOD: Word = Word {
+static METHOD: Word = Word {
     name: "method",
     given: Given::Choices(
         METHOD_VALUE,
@@ -138,57 +138,145 @@ const METHOD: Word = Word {
     help: METHOD_HELP,
 };
 
-const NAMES: Word = Word {
+static NAMES: Word = Word {
     name: "names",
     given: Given::Value(FILE_VALUE),
     help: NAMES_HELP,
 };
 
-const QUIET: Word = Word {
+static QUIET: Word = Word {
     name: "quiet",
     given: Given::Letter('q'),
     help: QUIET_HELP,
 };
 
-const LANGUAGE: Word = Word {
+static LANGUAGE: Word = Word {
     name: "lang",
     given: Given::Choice(LANGUAGE_VALUE, &LANGUAGE_WORDS),
     help: LANGUAGE_HELP,
 };
 
-const FORCE: Word = Word {
+static FORCE: Word = Word {
     name: "force",
     given: Given::Flag(&[]),
     help: FORCE_HELP,
 };
 
-/// The option that `clap` adds to every command.
-pub(crate) const HELP: Word = Word {
-    name: "help",
+/// The name of the option that `clap` adds to every command, and of its command.
+pub(crate) const HELP_NAME: &str = "help";
+
+static HELP: Word = Word {
+    name: HELP_NAME,
     given: Given::Letter('h'),
     help: HELP_HELP,
 };
 
-/// The option that it adds to the program.
-pub(crate) const VERSION: Word = Word {
+// The option that it adds to the program.
+static VERSION: Word = Word {
     name: "version",
     given: Given::Letter('V'),
     help: VERSION_HELP,
 };
 
-/// The options of every command, of the one that writes a file, and those of a command that reports.
-pub(crate) const OPTIONS: [Word; 2] = [QUIET, LANGUAGE];
+/// A word by its name alone.
+#[derive(Clone, Copy)]
+pub enum WordName {
+    Book,
+    OptionalBook,
+    Books,
+    Returns,
+    StageName,
+    Out,
+    CodeFile,
+    Statute,
+    FaultCode,
+    Short,
+    Markdown,
+    Html,
+    Json,
+    Csv,
+    Before,
+    Method,
+    Names,
+    Quiet,
+    Language,
+    Force,
+    /// The option that `clap` adds to every command.
+    Help,
+    /// The option that it adds to the program.
+    Version,
+}
 
-pub(crate) const CODE_OPTIONS: [Word; 3] = [FORCE, QUIET, LANGUAGE];
+impl WordName {
+    /// The word.
+    pub(crate) fn word(self) -> &'static Word {
+        match self {
+            WordName::Book => &BOOK,
+            WordName::OptionalBook => &OPTIONAL_BOOK,
+            WordName::Books => &BOOKS,
+            WordName::Returns => &RETURNS,
+            WordName::StageName => &STAGE_NAME,
+            WordName::Out => &OUT,
+            WordName::CodeFile => &CODE_FILE,
+            WordName::Statute => &STATUTE,
+            WordName::FaultCode => &FAULT_CODE,
+            WordName::Short => &SHORT,
+            WordName::Markdown => &MARKDOWN,
+            WordName::Html => &HTML,
+            WordName::Json => &JSON,
+            WordName::Csv => &CSV,
+            WordName::Before => &BEFORE,
+            WordName::Method => &METHOD,
+            WordName::Names => &NAMES,
+            WordName::Quiet => &QUIET,
+            WordName::Language => &LANGUAGE,
+            WordName::Force => &FORCE,
+            WordName::Help => &HELP,
+            WordName::Version => &VERSION,
+        }
+    }
+}
+
+/// The options of every command, of the one that writes a file, and those of a command that reports.
+pub(crate) const OPTIONS: [WordName; 2] = [WordName::Quiet, WordName::Language];
+
+pub(crate) const CODE_OPTIONS: [WordName; 3] = [
+    WordName::Force,
+    WordName::Quiet,
+    WordName::Language,
+];
 
 /// Those of `report`.
-pub(crate) const COUNT_REPORT_OPTIONS: [Word; 9] = [
-    SHORT, BEFORE, MARKDOWN, HTML, JSON, CSV, NAMES, QUIET, LANGUAGE,
+pub(crate) const COUNT_REPORT_OPTIONS: [WordName; 9] = [
+    WordName::Short,
+    WordName::Before,
+    WordName::Markdown,
+    WordName::Html,
+    WordName::Json,
+    WordName::Csv,
+    WordName::Names,
+    WordName::Quiet,
+    WordName::Language,
 ];
 
 /// Those of `compare`.
-pub(crate) const COMPARE_OPTIONS: [Word; 8] = [
-    METHOD, MARKDOWN, HTML, JSON, CSV, NAMES, QUIET, LANGUAGE,
+pub(crate) const COMPARE_OPTIONS: [WordName; 8] = [
+    WordName::Method,
+    WordName::Markdown,
+    WordName::Html,
+    WordName::Json,
+    WordName::Csv,
+    WordName::Names,
+    WordName::Quiet,
+    WordName::Language,
 ];
 
-pub(crate) const REPORT_OPTIONS: [Word; 7] = [MARKDOWN, HTML, JSON, CSV, NAMES, QUIET, LANGUAGE];
+pub(crate) const REPORT_OPTIONS: [WordName; 7] = [
+    WordName::Markdown,
+    WordName::Html,
+    WordName::Json,
+    WordName::Csv,
+    WordName::Names,
+    WordName::Quiet,
+    WordName::Language,
+];
