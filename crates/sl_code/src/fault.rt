@@ -9,7 +9,7 @@ use std::error::Error;
 use std::fmt;
 
 /// Why bytes are no code file, with the offset in bytes at which it shows.
-#[derive(Clone, Copy, PartialEq, Eq)]
+#[derive(Clone, Copy)]
 pub enum CodeFault {
     /// The file does not begin like a code file.
     Magic(usize),

@@ -1,18 +1,8 @@
 //! The instructions of the counting machine.
 
-ghost use Rattle.std.specs.Cmp.{and_equiv, and_per, nat_eq_equiv, on_equiv, on_per, partial_equiv_from_equiv};
-ghost use Rattle.std.specs.Cmp.Lexicographic.{lists_equiv, lists_per, pointwise};
-ghost use Rattle.std.specs.Ordering.{on, eq_of_both};
-ghost use Rattle.std.specs.Prelude.{nat_eq};
-ghost use Rattle.sl_code_instructions.specs.Rows.{opcode_of, operands_of};
-ghost use Rattle.sl_code_instructions.specs.contracts.parts.OperandEq.TheImpl.Laws.{laws-law as operands_equiv};
-ghost use Rattle.sl_code_instructions.specs.contracts.parts.OperandPartialEq.TheImpl.Laws.{laws-law as operands_per};
-
 use crate::kinds::Kinds;
 use crate::operand::{EndFault, Entries, Input, Ranking, Rounding, ScopeKind};
-use crate::parts::Operand;
 use sl_ratio::Divisor;
-use std::fmt;
 
 /// An instruction (docs/code.md, section 2), with its operands in order: `r` and `s` are registers, `k` and `v` slots, `t` the place of an
 /// instruction, `n` a stage (255 is the last clause), `c` a scope. Which of them there are, the verifier decides.
@@ -102,29 +92,4 @@ pub enum Instr {
     Haltv(u8, u8),
     /// `n c m r`: records the weight r of the cursors' entry.
     Weigh(u8, ScopeKind, Rounding, u8),
-}
-
-/// Shows its name and its operands.
-impl fmt::Debug for Instr {
-    fn fmt<W: fmt::Write>(&self, f: &mut fmt::Formatter<W>) -> fmt::Result {
-        let operands = self.operands();
-        f.debug_tuple(self.word())
-            .field(&operands.as_slice())
-            .finish()
-    }
-}
-
-/// Two are equal that have the same operation and the same operands.
-impl PartialEq for Instr {
-    ghost eq = { eq_of_both (on opcode_of nat_eq) (on operands_of (pointwise ⟦<Operand as PartialEq>⟧.eq)) };
-
-    ghost laws = { and_per (on_per opcode_of (partial_equiv_from_equiv nat_eq_equiv)) (on_per operands_of (lists_per operands_per)) };
-
-    fn eq(&self, other: &Instr) -> bool {
-        self.opcode() == other.opcode() && self.operands().as_slice() == other.operands().as_slice()
-    }
-}
-
-impl Eq for Instr {
-    ghost laws = { and_equiv (on_equiv opcode_of nat_eq_equiv) (on_equiv operands_of (lists_equiv operands_equiv)) };
 }

@@ -3,13 +3,13 @@
 use crate::operand::{Entries, Ranking};
 
 /// A set of registers: bit r of the mask is set where register r is in it.
-#[derive(Clone, Copy, PartialEq, Eq)]
+#[derive(Clone, Copy)]
 pub struct Registers {
     pub mask: u16,
 }
 
 /// A set of cursors.
-#[derive(Clone, Copy, PartialEq, Eq)]
+#[derive(Clone, Copy)]
 pub struct Cursors {
     pub party: bool,
     pub land: bool,
@@ -17,7 +17,7 @@ pub struct Cursors {
 }
 
 /// A priority table that is on: its entries, their ranking, and whether it is ready, known not to be empty.
-#[derive(Clone, Copy, PartialEq, Eq)]
+#[derive(Clone, Copy)]
 pub struct TableState {
     pub entries: Entries,
     pub ranking: Ranking,

@@ -7,7 +7,7 @@ ghost use Rattle.sl_code_instructions.specs.Numbers.{divisor_of, rounding_of};
 use sl_ratio::Divisor;
 
 /// What the entries of the priority table are.
-#[derive(Clone, Copy, PartialEq, Eq)]
+#[derive(Clone, Copy)]
 pub enum Entries {
     Party,
     Land,
@@ -19,7 +19,7 @@ pub enum Entries {
 pub const ENTRY_KINDS: [Entries; 4] = [Entries::Party, Entries::Land, Entries::List, Entries::Win];
 
 /// By what the entries of the priority table are ranked.
-#[derive(Clone, Copy, PartialEq, Eq)]
+#[derive(Clone, Copy)]
 pub enum Ranking {
     Quotients,
     Remainders,
@@ -29,7 +29,7 @@ pub enum Ranking {
 pub const RANKINGS: [Ranking; 2] = [Ranking::Quotients, Ranking::Remainders];
 
 /// The scope that the cursors stand at.
-#[derive(Clone, Copy, PartialEq, Eq)]
+#[derive(Clone, Copy)]
 pub enum ScopeKind {
     All,
     Land,
@@ -47,7 +47,7 @@ pub const SCOPE_KINDS: [ScopeKind; 4] = [
 
 /// A column of the returns: valid votes, counted votes and names left on each list, whether a party is one of a national minority,
 /// and the people of a Land.
-#[derive(Clone, Copy, PartialEq, Eq)]
+#[derive(Clone, Copy)]
 pub enum Input {
     Valid,
     Counted,
@@ -66,7 +66,7 @@ pub const INPUTS: [Input; 5] = [
 ];
 
 /// A legal fault without names, with the number of that fault.
-#[derive(Clone, Copy, PartialEq, Eq)]
+#[derive(Clone, Copy)]
 pub enum EndFault {
     Limit = 1,
     Short = 2,
@@ -85,7 +85,7 @@ pub const END_FAULTS: [EndFault; 5] = [
 ];
 
 /// The divisor methods whose weights are recorded: adams rounds up, webster to the nearest, jefferson down.
-#[derive(Clone, Copy, PartialEq, Eq)]
+#[derive(Clone, Copy)]
 pub enum Rounding {
     Adams,
     Webster,

@@ -6,11 +6,10 @@ ghost use Rattle.sl_code_instructions.specs.Numbers.{value_of};
 use crate::kinds::{Cursors, Registers, TableState};
 use crate::operand::{EndFault, Entries, Input, Ranking, Rounding, ScopeKind};
 use sl_ratio::Divisor;
-use std::fmt;
 use std::marker::Model;
 
 /// An operand of an instruction.
-#[derive(Clone, Copy, PartialEq, Eq)]
+#[derive(Clone, Copy)]
 pub enum Operand {
     Register(u8),
     Slot(u8),
@@ -51,33 +50,6 @@ impl Operand {
             Operand::Cursors(cursors) => u64::from(cursors.number()),
             Operand::Table(table) => u64::from(TableState::number(table)),
         }
-    }
-
-    fn kind(self) -> &'static str {
-        match self {
-            Operand::Register(_) => "Register",
-            Operand::Slot(_) => "Slot",
-            Operand::Stage(_) => "Stage",
-            Operand::Target(_) => "Target",
-            Operand::Value(_) => "Value",
-            Operand::Scope(_) => "Scope",
-            Operand::Entries(_) => "Entries",
-            Operand::Ranking(_) => "Ranking",
-            Operand::Input(_) => "Input",
-            Operand::Method(_) => "Method",
-            Operand::Rounding(_) => "Rounding",
-            Operand::Fault(_) => "Fault",
-            Operand::Positive(_) => "Positive",
-            Operand::Cursors(_) => "Cursors",
-            Operand::Table(_) => "Table",
-        }
-    }
-}
-
-/// Shows its kind and its number.
-impl fmt::Debug for Operand {
-    fn fmt<W: fmt::Write>(&self, f: &mut fmt::Formatter<W>) -> fmt::Result {
-        f.debug_tuple(self.kind()).field(&self.value()).finish()
     }
 }
 

@@ -72,14 +72,7 @@ impl Instr {
     pub fn name(self) -> &'static [u8]
         ensures { result.now ≡ name_of self }
     {
-        self.word().as_bytes()
-    }
-
-    // the same as text
-    pub(crate) fn word(self) -> &'static str
-        ensures { result.now ≡ name_of self }
-    {
-        NAMES[usize::from(self.opcode()) - 1]
+        NAMES[usize::from(self.opcode()) - 1].as_bytes()
     }
 
     /// Its operands.

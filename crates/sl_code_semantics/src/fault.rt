@@ -4,7 +4,7 @@ use std::error::Error;
 use std::fmt;
 
 /// The first test that a code fails, with the number of its instruction, from 0 (docs/verifier.md, section 4).
-#[derive(Clone, Copy, PartialEq, Eq)]
+#[derive(Clone, Copy)]
 pub enum VerifyFault {
     /// It jumps to a place without a declaration.
     Jump(usize),

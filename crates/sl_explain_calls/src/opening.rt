@@ -142,7 +142,7 @@ pub fn explain_writing(
 }
 
 /// The bytes that writing a code file would lose.
-#[derive(Clone, Copy, PartialEq, Eq)]
+#[derive(Clone, Copy)]
 pub enum Lost {
     /// Those of the rulebook that is compiled.
     Rulebook,

@@ -4,7 +4,7 @@ ghost use Rattle.std.specs.Prelude.{◌≡◌};
 ghost use Rattle.sl_explain_texts.specs.Codes.{code_named, code_word};
 
 /// The code of a fault. `word` says how it is written.
-#[derive(Clone, Copy, PartialEq, Eq)]
+#[derive(Clone, Copy)]
 pub enum FaultCode {
     /// A statute that the library lacks.
     B01,

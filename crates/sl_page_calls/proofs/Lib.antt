@@ -1,4 +1,5 @@
 pub mod Handed
+mod Naming
 pub mod OneStatus
 pub mod Standing
 pub mod Untold

@@ -1,7 +1,7 @@
 //! Counting, reports and explanations for a web page: calls over memory that the page hands in (docs/page.md).
 //!
 //! Stands on `sl_report_commands` and `sl_explain_codes`; nothing stands on it. Proved: what each call of the desk hands over; the
-//! status of reports, totals and explanations, and the code of the fault. Of a comparison only that it stays within the room.
+//! status of reports, totals, comparisons and explanations, and the code of the fault.
 //!
 //! Where an error is `NoMemory` alone, memory ran out, and nothing else is wrong.
 #![tactic(auto)]
@@ -18,7 +18,7 @@ ghost use Rattle.sl_count_calls.specs.Showing.{IsStageOutput};
 ghost use Rattle.sl_count_calls.specs.Steps.{ShowsSteps};
 ghost use Rattle.sl_page_calls.specs.Coding.{AreCodeEnds, HandsCode};
 ghost use Rattle.sl_page_calls.specs.Handing.{HandsOver, HandsStatus};
-ghost use Rattle.sl_page_calls.specs.Reporting.{AreTotalled, IsReported, given_book};
+ghost use Rattle.sl_page_calls.specs.Reporting.{AreTotalled, IsCompared, IsReported, given_book};
 ghost use Rattle.sl_page_calls.specs.Showing.{AreEnds, ShowsAll};
 ghost use Rattle.sl_page_calls.specs.Telling.{TellsCheck, TellsCode, TellsCount, TellsRun};
 
@@ -250,7 +250,7 @@ pub extern "C" fn page_totals(
 }
 
 /// The JSON of `compare` for these returns by rulebooks, whose words stand on a line each: a word with `@` is that of a statute of the library, and
-/// any other one that of the book. Language and names as in `page_report`; 7 where the words are no UTF-8.
+/// any other one that of the book. Statuses, language and names as in `page_report`; 7 where the words are no UTF-8.
 #[unsafe(no_mangle)]
 pub extern "C" fn page_compare(
     alloc: Global,
@@ -262,7 +262,8 @@ pub extern "C" fn page_compare(
     out: &mut [u8],
     count: &mut usize,
 ) -> u32
-    ensures { count.new ≤ length out.new }
+    ensures status { HandsStatus (IsCompared words.now book.now returns.now names.now) result }
+    ensures within { count.new ≤ length out.new }
 {
     *count = 0;
     let Ok(words) = std::str::from_utf8(words) else {

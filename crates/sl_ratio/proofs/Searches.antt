@@ -1,5 +1,5 @@
 -- The searches for the two bounds: what a turn of each keeps, and what it has found at the end.
-use Rattle.std.proofs.Common.{◌≡◌, ℕ, suc, ◌+◌, ◌-◌, ◌*◌, ◌<◌, ◌≤◌, true, false, List, [], ◌∷◌, length, get_or, sum, All, Option, Some, None, MatchOption, inl, inr, refl, sym, ap, subst, ◌∙◌, arith}
+use Rattle.std.proofs.Common.{All, Bool, List, MatchOption, None, Option, Some, [], ap, arith, false, get_or, if◌then◌else◌, inl, inr, length, refl, subst, suc, sum, sym, true, ℕ, ◌*◌, ◌+◌, ◌-◌, ◌<◌, ◌∙◌, ◌∷◌, ◌≡◌, ◌≤◌}
 use Rattle.std.proofs.lemmas.Bool.{cases_lt}
 use Rattle.std.proofs.lemmas.Bool.Decides.{nat_tests}
 use Rattle.std.proofs.lemmas.Grind.{get_or_default_zero}
@@ -8,6 +8,7 @@ use Rattle.std.proofs.lemmas.List.Sums.{sum_by-cons}
 use Rattle.std.specs.Ordering.{is_le, is_ge, nat_cmp}
 use Rattle.sl_ratio.specs.declared.method.Divisor.{Divisor}
 use Rattle.sl_ratio.specs.Quotient.{Quotient, AtMost, Below, quotient}
+use Rattle.std.specs.Bool.{then_some}
 use Rattle.sl_ratio.specs.Bounds.{HasWeight, IsLastBound, IsNextBound, last_quotient, next_quotient}
 use Rattle.sl_ratio.specs.inner.Picks.{lesser, greater}
 use Rattle.sl_ratio.specs.inner.QuotientLaws.{quotient_positive}
@@ -92,7 +93,7 @@ module _ (method : Divisor) (v s : List ℕ) where
       ]
 
   -- a turn, as the loops have it: with this entry there are m, and it has the weight w and h seats
-  pub last_more : (n m w h : ℕ) (found : Option Quotient) (ratio kept : Quotient) → w ≡ get_or v n 0 → h ≡ get_or s n 0 → m ≡ n + 1 →
+  last_more : (n m w h : ℕ) (found : Option Quotient) (ratio kept : Quotient) → w ≡ get_or v n 0 → h ≡ get_or s n 0 → m ≡ n + 1 →
       HasWeight v n → 0 < h → ratio ≡ quotient method w (h - 1) → kept ≡ lesser found ratio →
       Found (last_search method v s) n found → Found (last_search method v s) m (Some kept)
   last_more n m w h found ratio kept ew eh em weight some er ek so_far =
@@ -100,11 +101,22 @@ module _ (method : Divisor) (v s : List ℕ) where
       subst (λ (k : ℕ). Found (last_search method v s) k (Some kept)) (sym em)
       (subst (λ (y : Quotient). Found (last_search method v s) (n + 1) (Some y)) same (last_turn n found weight (omega arith) so_far))
 
-  pub last_passed : (n m h : ℕ) (found : Option Quotient) → h ≡ get_or s n 0 → m ≡ n + 1 → h ≤ 0 →
+  last_passed : (n m h : ℕ) (found : Option Quotient) → h ≡ get_or s n 0 → m ≡ n + 1 → h ≤ 0 →
       Found (last_search method v s) n found → Found (last_search method v s) m found
   last_passed n m h found eh em none so_far =
       subst (λ (k : ℕ). Found (last_search method v s) k found) (sym em)
       (skipped (last_search method v s) (least_first method v s) n found (λ d. let some = d.1 in omega arith) so_far)
+
+  pub last_next : (n m w h : ℕ) (found now : Option Quotient) → w ≡ get_or v n 0 → h ≡ get_or s n 0 → m ≡ n + 1 → HasWeight v n →
+      (0 < h → now ≡ Some (lesser found (quotient method w (h - 1)))) → (h ≡ 0 → now ≡ found) →
+      Found (last_search method v s) n found → Found (last_search method v s) m now
+  last_next n m w h found now ew eh em weight awarded passed so_far =
+      let Finds : Option Quotient → Type 0 = Found (last_search method v s) m in
+      let last = quotient method w (h - 1) in
+      elim (cases_lt 0 h) [
+        | inl some ↦ subst Finds (sym (awarded some)) (last_more n m w h found last (lesser found last) ew eh em weight some refl refl so_far)
+        | inr none ↦ subst Finds (sym (passed (omega (arith, none)))) (last_passed n m h found eh em none so_far)
+      ]
 
   pub next_more : (n m w h : ℕ) (found : Option Quotient) (ratio kept : Quotient) → w ≡ get_or v n 0 → h ≡ get_or s n 0 → m ≡ n + 1 →
       HasWeight v n → ratio ≡ quotient method w h → kept ≡ greater found ratio →
@@ -165,3 +177,8 @@ sum_none (x ∷ xs) h =
     let first : x ≡ 0 = h 0 0 (omega arith) in
     let rest : sum xs ≡ 0 = sum_none xs (λ k d l. h (suc k) d (omega arith)) in
     omega (arith, sum_by-cons (λ n. n) x xs)
+
+-- two quotients where they are shown, and else nothing
+pub pair_if : (shown : Bool) (pair : Quotient × Quotient) → then_some shown pair ≡ (if shown then Some pair else None)
+pair_if true pair = refl
+pair_if false pair = refl

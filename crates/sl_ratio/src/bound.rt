@@ -1,8 +1,9 @@
 //! The bounds of an allocation: the least quotient of an awarded seat, and the greatest of a next one.
 
-ghost use Rattle.std.specs.Prelude.{◌≡◌, ◌-◌, ◌*◌, ◌<◌, ◌≤◌, length, sum, MatchOption};
+ghost use Rattle.std.specs.Prelude.{◌≡◌, ◌-◌, ◌*◌, ◌<◌, ◌≤◌, Some, length, sum, MatchOption};
 ghost use Rattle.std.specs.List.{All};
 ghost use Rattle.sl_ratio.specs.Bounds.{AreBounds, IsRounding, IsLastBound, IsNextBound};
+ghost use Rattle.sl_ratio.specs.Quotient.{quotient};
 ghost use Rattle.sl_ratio.specs.inner.Picks.{lesser, greater};
 
 use crate::limits::{MAX_SEATS, MAX_WEIGHT};
@@ -29,6 +30,20 @@ fn greater(found: Option<Ratio>, quotient: Ratio) -> Ratio
     }
 }
 
+// The least quotient found after an entry more, which counts with its last seat, if it has one.
+fn last_with(method: Divisor, found: Option<Ratio>, weight: u64, held: u32) -> Option<Ratio>
+    requires positive { 1 ≤ weight }
+    requires weight { weight ≤ MAX_WEIGHT }
+    requires held { held ≤ MAX_SEATS }
+    ensures awarded { 0 < held → result ≡ Some (lesser found (quotient method weight (held - 1))) }
+    ensures passed { held ≡ 0 → result ≡ found }
+{
+    if held == 0 {
+        return found;
+    }
+    Some(lesser(found, method.ratio(weight, held - 1)))
+}
+
 // The least quotient of an awarded seat, or `None` where there is no such seat.
 fn last_bound(method: Divisor, weights: &[u64], seats: &[u32]) -> Option<Ratio>
     requires same_length { length seats.now ≡ length weights.now }
@@ -39,9 +54,7 @@ fn last_bound(method: Divisor, weights: &[u64], seats: &[u32]) -> Option<Ratio>
 {
     let mut last = None;
     for (weight, held) in weights.iter().zip(seats) {
-        if *held > 0 {
-            last = Some(lesser(last, method.ratio(*weight, *held - 1)));
-        }
+        last = last_with(method, last, *weight, *held);
     }
     last
 }

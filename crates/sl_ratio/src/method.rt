@@ -4,7 +4,7 @@ ghost use Rattle.std.specs.Prelude.{◌≡◌};
 ghost use Rattle.sl_ratio.specs.Quotient.{method_number, is_rounding};
 
 /// A divisor method, named after the one who proposed it (Balinski and Young, Fair Representation).
-#[derive(Clone, Copy, Debug, PartialEq, Eq)]
+#[derive(Clone, Copy, PartialEq, Eq)]
 pub enum Divisor {
     Adams,
     Dean,

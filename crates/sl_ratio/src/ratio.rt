@@ -18,7 +18,7 @@ const WORD: u128 = 1 << 64;
 /// A quotient of votes by a divisor. It is kept as it came, not reduced: 60/3 and 20/1 are equal quotients and two ratios.
 ///
 /// `==` compares the ratios, and `cmp` the quotients.
-#[derive(Clone, Copy, Debug, PartialEq, Eq, Hash)]
+#[derive(Clone, Copy, PartialEq, Eq, Hash)]
 pub struct Ratio {
     // The numerator as two words: with a `u128`, which lies at a multiple of 16 bytes, an entry would take 48 bytes in place of 32.
     high: u64,

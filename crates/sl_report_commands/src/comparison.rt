@@ -1,9 +1,9 @@
 //! The command that shows several rulebooks side by side: `compare`.
 
 ghost use Rattle.std.specs.List.{AllZip};
-ghost use Rattle.std.specs.Prelude.{◌⊎◌, ◌≡◌, ◌++◌, Any, IfErr, IfOk, OnOk, map, option_map};
+ghost use Rattle.std.specs.Prelude.{◌≡◌, ◌++◌, Any, IfErr, IfOk, OnOk, map, option_map};
 ghost use Rattle.sl_count_inputs.specs.Judging.{input_of};
-ghost use Rattle.sl_count_inputs.specs.declared.status.Status.TheVariants.{Done, Refused};
+ghost use Rattle.sl_count_inputs.specs.declared.status.Status.TheVariants.{Done};
 ghost use Rattle.sl_report_commands.specs.Digests.{compared_digests, digests, is_whole, named_digest};
 ghost use Rattle.sl_report_commands.specs.Compared.{IsComparedTo, ShowsCompared, counted_of, fault_of};
 ghost use Rattle.sl_report_commands.specs.Summaries.{IsComparison, IsGoodNamed, IsRefusal, IsRefusedBook};
@@ -21,7 +21,7 @@ use sl_count_inputs::{
 };
 use sl_explain_calls::{Explained, explain_book};
 use sl_explain_texts::Language;
-use sl_laws::{STATUTES, law};
+use sl_laws::law;
 use sl_ratio::NoMemory;
 use sl_report_forms::DigestedInput;
 use sl_report_tables::{Answer, FullNames, Judged, comparison_answer, names_of};
@@ -303,55 +303,4 @@ pub fn compare(
     let written = written_comparison(alloc, books, &judged, returns, names, style);
     drop(judged);
     written
-}
-
-// The statutes as a command line names them.
-fn statute_words(alloc: Global) -> Result<Vec<String>, NoMemory> {
-    let mut words: Vec<String> = Vec::new(alloc);
-    for statute in &STATUTES {
-        words.push(format!(in alloc; "@{}", statute.name)?)?;
-    }
-    Ok(words)
-}
-
-// The statutes, each by its word.
-fn named_statutes<'a>(alloc: Global, words: &'a [String]) -> Result<Vec<Named<'a>>, NoMemory> {
-    let mut books: Vec<Named<'_>> = Vec::new(alloc);
-    for (word, statute) in words.iter().zip(STATUTES.iter()) {
-        books.push(Named {
-            word: word.as_str(),
-            book: BookText::Library(statute.name),
-        })?;
-    }
-    Ok(books)
-}
-
-// Several books on good returns, side by side, or the line that refuses the first that is not good.
-fn compare_all(
-    alloc: Global,
-    books: &[Named<'_>],
-    returns: &Returns,
-    full: &FullNames,
-    language: Language,
-) -> Result<Answer, NoMemory>
-    ensures { IfOk result (λ a. (a.status ≡ Done) ⊎ (a.status ≡ Refused)) }
-{
-    match good_books(alloc, books)? {
-        Ok(good) => compare_judged(alloc, good, returns, full, language),
-        Err(BookRefusal { refused, .. }) => Ok(Answer::refused(alloc, refused.why().line(alloc)?)),
-    }
-}
-
-/// The statutes of the library on good returns, side by side, each by its name after `@`, with the full names of a text.
-pub fn compare_statutes(
-    alloc: Global,
-    returns: &Returns,
-    full: &FullNames,
-    language: Language,
-) -> Result<Answer, NoMemory>
-    ensures { IfOk result (λ a. (a.status ≡ Done) ⊎ (a.status ≡ Refused)) }
-{
-    let words = statute_words(alloc)?;
-    let books = named_statutes(alloc, words.as_slice())?;
-    compare_all(alloc, books.as_slice(), returns, full, language)
 }

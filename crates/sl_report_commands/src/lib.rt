@@ -14,7 +14,7 @@ mod method;
 mod sums;
 mod written;
 
-pub use comparison::{Compared, Named, compare, compare_judged, compare_statutes};
+pub use comparison::{Compared, Named, compare, compare_judged};
 pub use counts::{answer_count, answer_judged, report, stages};
 pub use further::add_refused;
 pub use method::book_by;

@@ -3,14 +3,13 @@
 ghost use Rattle.std.specs.List.{list_all};
 ghost use Rattle.std.specs.Prelude.{◌≡◌, ◌<◌, ◌++◌, OnOk, flat_map, nat_eq, slice_get};
 ghost use Rattle.std.specs.Str.{str_eq_ignore_ascii_case};
-ghost use Rattle.sl_report_parties.specs.Sums.{one_if};
 ghost use Rattle.sl_stages.specs.returns.Election.{lands_of, list_at, parties_of};
 ghost use Rattle.sl_stages.specs.returns.Facts.{lands, parties};
 ghost use Rattle.sl_report_warnings.specs.Warnings.{are_alike, counts_none, has_name_of_many, has_none, is_many, of_land, of_party, of_place, of_returns, of_winners, uncounted_lists, warned, winners_beside};
 
 use crate::warning::Warning;
 use sl_ratio::NoMemory;
-use sl_report_parties::{lists_of, winners_at, winners_in, winners_of};
+use sl_report_parties::{lists_of, one_if, winners_at, winners_in, winners_of};
 use sl_stages::Returns;
 
 /// Adds a warning where something holds.
@@ -136,13 +135,6 @@ fn counts_none(returns: &Returns, party: usize, land: usize) -> bool
     ensures { result ≡ counts_none (list_at returns.now land party) }
 {
     returns.valid(land, party) >= 1 && returns.counted(land, party) == 0
-}
-
-// 1 where it is so, and 0 elsewhere.
-fn one_if(is: bool) -> u64
-    ensures { result ≡ one_if is }
-{
-    if is { 1 } else { 0 }
 }
 
 // How many lists of a party have valid votes of which none is counted.

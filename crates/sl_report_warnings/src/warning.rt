@@ -4,7 +4,7 @@ ghost use Rattle.std.specs.Prelude.{◌≡◌};
 ghost use Rattle.sl_report_warnings.specs.Heads.{key_of};
 
 /// What is likely a mistake. Länder, parties and lots have the numbers of their records, from 0.
-#[derive(Clone, Copy, PartialEq, Eq)]
+#[derive(Clone, Copy)]
 pub enum Warning {
     /// Several Länder, all with the same people.
     EqualPeople,

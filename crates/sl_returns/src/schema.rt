@@ -165,7 +165,7 @@ impl Kind {
 }
 
 /// What a cell holds.
-#[derive(Clone, Copy, PartialEq, Eq)]
+#[derive(Clone, Copy)]
 pub enum Content {
     /// The word of the kind.
     Kind,
@@ -185,7 +185,7 @@ pub enum Content {
 }
 
 /// What a name stands for.
-#[derive(Clone, Copy, PartialEq, Eq)]
+#[derive(Clone, Copy)]
 pub enum Named {
     Land,
     Party,
@@ -193,7 +193,7 @@ pub enum Named {
 }
 
 /// What a number counts.
-#[derive(Clone, Copy, PartialEq, Eq)]
+#[derive(Clone, Copy)]
 pub enum Quantity {
     /// The seats of the house.
     House,

@@ -7,7 +7,7 @@ ghost use Rattle.sl_returns_places.specs.Places.{is_quoted, mark_length, place_i
 ghost use Rattle.sl_returns_places.specs.inner.Scanning.{machine_state, machine_action};
 
 /// Where a cell stands in a text: the offset of its first byte, that after its last, and whether a quote in it is open at the end of the text.
-#[derive(Clone, Copy, Debug, PartialEq, Eq)]
+#[derive(Clone, Copy)]
 pub struct Place {
     pub start: usize,
     pub end: usize,

@@ -1,6 +1,7 @@
 mod Deliveries
 mod Exits
 mod Files
+mod LibraryWords
 mod Shown
 mod Summaries
 mod Tellings

@@ -1,5 +1,5 @@
 -- The end of a command over several inputs, and of which refusal it tells, by what the inputs' bytes come to.
-use Rattle.std.proofs.Common.{All, Any, Bool, Contains, IfSome, List, None, Option, Some, [], arith, get_or, inl, inr, length, map, refl, slice_get, subst, sym, ◌++◌, ◌<◌, ◌≤◌, ◌∷◌, ◌≡◌, ◌∙◌, ap, ℕ}
+use Rattle.std.proofs.Common.{All, Any, Bool, Contains, IfSome, List, None, Option, Some, [], arith, get_or, inl, inr, length, map, refl, slice_get, subst, sym, ◌<◌, ◌≤◌, ◌∷◌, ◌≡◌, ◌∙◌, ap, ℕ}
 use Rattle.std.proofs.Math.ListN.{get_or-map}
 use Rattle.std.proofs.lemmas.List.{length-map}
 use Rattle.std.proofs.lemmas.Option.{get_or_from_slice_get, slice_get_within}
@@ -21,7 +21,7 @@ use Rattle.sl_stages.specs.returns.Election.{Election}
 use Rattle.sl_terminal_commands.specs.Beside.{AreNames}
 use Rattle.sl_terminal_commands.specs.Sums.{AreBad, AreGood, AreJudged, IsGoodBook, IsOfComparison, IsOfSums, IsComparing, IsOfRefused, IsRefusedBy, IsSumming, IsVerdictOn}
 use Rattle.sl_terminal_commands.specs.declared.sums.NamedBook.{NamedBook}
-use Rattle.sl_terminal_commands.specs.inner.Verdicts.{AreTold, IsBad, IsEndAmong, IsEndBy, IsEndOfAll, IsEndOn, IsGood, IsOfBoth, IsOfCompared, IsOfElection, IsOfOneOf, IsVariedOf}
+use Rattle.sl_terminal_commands.specs.inner.Verdicts.{AreTold, IsBad, IsEndBy, IsEndOfAll, IsEndOn, IsGood, IsOfBoth, IsOfCompared, IsOfElection, IsOfOneOf, IsVariedOf}
 use Rattle.sl_terminal_commands.specs.Said.{Said, fault}
 
 if_some_wider : {A : Type 0} (known : Option A) (P Q : A → Type 0) → ((a : A) → P a → Q a) → IfSome known P → IfSome known Q
@@ -91,7 +91,7 @@ module _ (bytes : List ℕ → Option (List ℕ)) (returns : List ℕ) (w : Verd
   pub compared_all : (names : Option (List ℕ)) (is_refused : Bool) → AreNames bytes names is_refused → (books : List NamedBook)
       → All (λ (b : NamedBook). IsVerdictOn bytes b.word.now (tree_verdict b.read.verdict)) books → (methods : List (List ℕ)) (given : ℕ) → given ≤ length methods
       → (ends : Status) → IsEndOfAll is_refused given books w ends → IsComparing bytes returns (map (λ (b : NamedBook). b.word.now) books) methods names ends
-  compared_all names is_refused are books on methods given few ends (inl (good, all, inl (inl shown))) =
+  compared_all names is_refused are books on methods given few ends (inl (good, all, inl shown)) =
       inl (
       inl (
         is_refused,
@@ -101,16 +101,12 @@ module _ (bytes : List ℕ → Option (List ℕ)) (returns : List ℕ) (w : Verd
         all_good books on all,
       )
       )
-  compared_all names is_refused are books on methods given few ends (inl (good, all, inl (inr (none, is)))) =
-      inr (is, inr (ap (map (λ (b : NamedBook). b.word.now)) none))
   compared_all names is_refused are books on methods given few ends (inl (good, all, inr (is, v, (b, book, there, checked, (some, by)), (refused, same)))) =
       inr (
         is,
-        inl (
-          omega (arith, few, some),
-          subject input.Book (book_code refused),
-          refused_by books on given v refused (b, book, there, checked, (some, by)) same,
-        ),
+        omega (arith, few, some),
+        subject input.Book (book_code refused),
+        refused_by books on given v refused (b, book, there, checked, (some, by)) same,
       )
   compared_all names is_refused are books on methods given few ends (inr (is, inl bad)) = inl (inr (is, inl (bad_returns bad)))
   compared_all names is_refused are books on methods given few ends (inr (is, inr (b, (k, lt, at), (refused, same)))) =
@@ -188,16 +184,6 @@ pub end_by : (is_refused : Bool) (book : Verdict CheckedBook RefusedBook) (retur
     → (ends : Status) → IsEndOn is_refused returns ends → IsEndBy is_refused book returns ends
 end_by is_refused book returns good is ends (inl shown) = inl (shown.0, shown.1, (good, is))
 end_by is_refused book returns good is ends (inr refused) = inr (refused.0, inl refused.1)
-
--- rulebooks with others behind them are none only where they are none themselves
-pub among_front : (is_refused : Bool) (books others all : List NamedBook) → all ≡ books ++ others → (ends : Status) → IsEndAmong is_refused all ends
-    → IsEndAmong is_refused books ends
-among_front is_refused books others all are ends (inl shown) = inl shown
-among_front is_refused [] others all are ends (inr (none, is)) = inr (refl, is)
-among_front is_refused (b ∷ books) others all are ends (inr (none, is)) = absurd (cons-nil (sym are ∙ none))
-  where
-    cons-nil : b ∷ (books ++ others) ≡ [] → ⊥
-    cons-nil h = cc
 
 -- the first of several is one of them
 pub contains_first : (books : List NamedBook) (b : NamedBook) → Some b ≡ slice_get books 0 → Contains books b

@@ -16,7 +16,7 @@ use Rattle.sl_terminal_count.specs.Inputs.{named_input}
 use Rattle.sl_report_commands.specs.Statuses.{IsReportStatus}
 use Rattle.sl_terminal_commands.specs.Beside.{AreBeside}
 use Rattle.sl_terminal_commands.specs.Ends.{Exits}
-use Rattle.sl_terminal_commands.specs.Sums.{IsComparing, IsSumming, given_word}
+use Rattle.sl_terminal_commands.specs.Sums.{IsComparing, IsSumming, compared_words, given_word}
 use Rattle.sl_terminal_words.specs.declared.command_line.Request.TheVariants as asked
 use Rattle.sl_terminal_words.specs.declared.command_line.Request.{Request}
 use Rattle.sl_terminal_words.specs.declared.command_line.Show.TheVariants.{Seats, Stage, Steps}
@@ -47,7 +47,7 @@ IsReportEnd bytes (what.Short book returns before) names ends = IsReportOf bytes
 IsReportEnd bytes (what.Stages book returns) names ends = IsReportOf bytes book.now returns.now names None ends
 IsReportEnd bytes (what.Totals returns book) names ends = IsSumming bytes returns.now (given_word (option_map (λ word. word.now) book)) names ends
 IsReportEnd bytes (what.Compare returns books methods) names ends =
-    IsComparing bytes returns.now (map (λ word. word.now) books.items) (map (λ word. word.now) methods.items) names ends
+    IsComparing bytes returns.now (compared_words (map (λ word. word.now) books.items)) (map (λ word. word.now) methods.items) names ends
 
 abbrev pub IsOutputOf : (List ℕ → Option (List ℕ)) → Request → Status → List ℕ → Type 0
 IsOutputOf bytes (asked.Count show book returns) ends text = ForKnown (named_input bytes book.now) (bytes returns.now) (λ input known. IsShown show input known ends text)

@@ -1,5 +1,5 @@
 -- How a command that sums up returns, or that puts rulebooks side by side, ends, and of which fault is told (docs/report.md).
-use Rattle.std.specs.Prelude.{All, Any, Bool, IfSome, List, None, Option, Some, [], if◌then◌else◌, length, ◌<◌, ◌∷◌, ◌≡◌, ◌⊎◌, ℕ}
+use Rattle.std.specs.Prelude.{All, Any, Bool, IfSome, List, None, Option, Some, [], if◌then◌else◌, length, map, ◌<◌, ◌∷◌, ◌≡◌, ◌⊎◌, ℕ}
 use Rattle.sl_explain_calls.specs.Codes.{Subject, book_code, election_code, subject}
 use Rattle.sl_count_inputs.specs.Books.{IsBookVerdict}
 use Rattle.sl_count_inputs.specs.Judging.{refusal_of, returns_refusal_of}
@@ -13,6 +13,7 @@ use Rattle.sl_count_inputs.specs.declared.status.Status.TheVariants as status
 use Rattle.sl_count_inputs.specs.declared.status.Status.{Status}
 use Rattle.sl_count_inputs.specs.declared.verdict.Verdict.TheVariants.{Good, Refused}
 use Rattle.sl_count_inputs.specs.declared.verdict.Verdict.{Verdict}
+use Rattle.sl_laws.specs.Books.{books as statutes}
 use Rattle.sl_ratio.specs.declared.method.Method.{Method}
 use Rattle.sl_report_commands.specs.Methods.{IsVerdictBy}
 use Rattle.sl_terminal_count.specs.Inputs.{named_input}
@@ -73,11 +74,19 @@ IsRefusedBy bytes s word =
     (asked : Method) × ((refused : RefusedBook) × IfSome (named_input bytes word) (λ book. IsVerdictBy asked book (Refused (refusal_of refused)))
     × (s ≡ subject input.Book (book_code refused)))
 
--- rulebooks side by side end as sums do; besides, a good rulebook may be refused by another method, and where none is given one of the library
+-- the words that name the statutes of the library: each is `@`, which is 64, and the name
+abbrev pub library_words : List (List ℕ)
+library_words = map (λ statute. 64 ∷ statute.0) statutes
+
+-- the words of the rulebooks that are put side by side: those that are given, and where there are none those of the library
+abbrev pub compared_words : List (List ℕ) → List (List ℕ)
+compared_words [] = library_words
+compared_words (word ∷ words) = word ∷ words
+
+-- rulebooks side by side end as sums do; besides, a good rulebook may be refused by another method
 abbrev pub IsComparing : (List ℕ → Option (List ℕ)) → List ℕ → (books methods : List (List ℕ)) → (names : Option (List ℕ)) → Status → Type 0
 IsComparing bytes returns books methods names ends =
-    IsSumming bytes returns books names ends
-    ⊎ ((ends ≡ status.Refused) × (((0 < length methods) × (s : Subject) × Any (IsRefusedBy bytes s) books) ⊎ (books ≡ [])))
+    IsSumming bytes returns books names ends ⊎ ((ends ≡ status.Refused) × (0 < length methods) × (s : Subject) × Any (IsRefusedBy bytes s) books)
 
 -- of rulebooks side by side: a refusal; where all are good, nothing or warnings of the returns; where methods are given, a rulebook that one of them refuses
 abbrev pub IsOfComparison : (List ℕ → Option (List ℕ)) → List ℕ → (books methods : List (List ℕ)) → (Said → Type 0) → Type 0

@@ -19,7 +19,7 @@ use Rattle.sl_terminal_count.specs.Inputs.{named_input}
 use Rattle.sl_stages.specs.declared.checked.CheckedBook.{CheckedBook}
 use Rattle.sl_terminal_commands.specs.Beside.{AreBeside}
 use Rattle.sl_terminal_commands.specs.Said.{Said, fault, judged_said, nothing, report_said, said_of}
-use Rattle.sl_terminal_commands.specs.Sums.{IsOfComparison, IsOfSums, given_word}
+use Rattle.sl_terminal_commands.specs.Sums.{IsOfComparison, IsOfSums, compared_words, given_word}
 use Rattle.sl_terminal_words.specs.declared.command_line.Request.TheVariants as asked
 use Rattle.sl_terminal_words.specs.declared.command_line.Request.{Request}
 use Rattle.sl_terminal_words.specs.declared.command_line.Show.TheVariants.{Stage, Steps}
@@ -61,7 +61,7 @@ IsOfWhat bytes (what.Short book returns before) names Says = IsOfReport bytes bo
 IsOfWhat bytes (what.Stages book returns) names Says = IsOfReport bytes book.now returns.now names None Says
 IsOfWhat bytes (what.Totals returns book) names Says = IsOfSums bytes returns.now (given_word (option_map (λ word. word.now) book)) Says
 IsOfWhat bytes (what.Compare returns books methods) names Says =
-    IsOfComparison bytes returns.now (map (λ word. word.now) books.items) (map (λ word. word.now) methods.items) Says
+    IsOfComparison bytes returns.now (compared_words (map (λ word. word.now) books.items)) (map (λ word. word.now) methods.items) Says
 
 -- of a request: of the fault that it met
 abbrev pub IsOfFault : (List ℕ → Option (List ℕ)) → Request → (Said → Type 0) → Type 0

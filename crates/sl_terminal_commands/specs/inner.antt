@@ -1,3 +1,4 @@
 -- What only bodies and proofs cite.
 pub mod Reports
+pub mod Statutes
 pub mod Verdicts

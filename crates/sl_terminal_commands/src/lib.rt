@@ -12,6 +12,7 @@ mod program;
 mod refused_books;
 mod reports;
 mod side_by_side;
+mod statutes;
 mod sums;
 mod telling;
 mod terminal;

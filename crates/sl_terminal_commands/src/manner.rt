@@ -1,13 +1,12 @@
 //! How the texts of `totals` and `compare` are written, and the digests of their inputs.
 
-ghost use Rattle.std.specs.Prelude.{◌≡◌, ◌<◌, ◌++◌, IfOk, OnOk, flat_map, length, option_map};
+ghost use Rattle.std.specs.Prelude.{◌≡◌, ◌++◌, IfOk, OnOk, flat_map, option_map};
 ghost use Rattle.sl_report_commands.specs.Digests.{digests};
 ghost use Rattle.sl_terminal_commands.specs.Digested.{called_digests, named_digest, read_digest, sums_digests};
 
 use crate::reports::book_bytes;
 use crate::sums::{NamedBook, NamedReturns};
 use sl_explain_calls::Explained;
-use sl_laws::STATUTES;
 use sl_ratio::NoMemory;
 use sl_report_commands::{
     Answer, DigestedInput, Style, digested_book, digested_returns, push_digested, refusal_of,
@@ -88,18 +87,6 @@ fn push_books(
     Ok(())
 }
 
-// Adds the digests of the statutes of the library.
-fn push_statutes(alloc: Global, inputs: &mut Vec<DigestedInput>) -> Result<(), NoMemory> {
-    for statute in &STATUTES {
-        let word = format!(in alloc; "@{}", statute.name)?;
-        push_digested(
-            inputs,
-            digested_book(Some(word), statute.text.as_bytes(), None),
-        )?;
-    }
-    Ok(())
-}
-
 // Adds the digest of returns, if they have bytes.
 fn push_returns(inputs: &mut Vec<DigestedInput>, returns: &NamedReturns<'_>) -> Result<(), NoMemory>
     ensures { OnOk result (digests inputs.new.items ≡ digests inputs.old.items ++ read_digest returns.now) }
@@ -131,24 +118,20 @@ pub(crate) fn inputs_of(
     Ok(inputs)
 }
 
-/// The digests of rulebooks, each with the word that names it, or of the statutes of the library where there are none, and of returns, as JSON has
-/// them.
+/// The digests of rulebooks, each with the word that names it, and of returns, as JSON has them.
 pub(crate) fn called_inputs(
     alloc: Global,
     books: &[NamedBook<'_>],
     returns: &NamedReturns<'_>,
     style: Style,
 ) -> Result<Vec<DigestedInput>, NoMemory>
-    ensures { 0 < length books.now → IfOk result (λ inputs. digests inputs.items ≡ called_digests style.shape books.now returns.now) }
+    ensures { IfOk result (λ inputs. digests inputs.items ≡ called_digests style.shape books.now returns.now) }
 {
     let mut inputs = Vec::new(alloc);
     if !style.is_json() {
         return Ok(inputs);
     }
     push_books(alloc, &mut inputs, books)?;
-    if books.is_empty() {
-        push_statutes(alloc, &mut inputs)?;
-    }
     push_returns(&mut inputs, returns)?;
     Ok(inputs)
 }

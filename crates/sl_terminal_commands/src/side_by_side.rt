@@ -1,24 +1,25 @@
 //! The command that puts rulebooks side by side on returns. Each input is read and judged once.
 
-ghost use Rattle.std.specs.Prelude.{◌≡◌, IfOk, None, false, is_err, length, map, option_map, true};
+ghost use Rattle.std.specs.Prelude.{◌≡◌, IfOk, None, is_err, length, map, option_map, true};
 ghost use Rattle.sl_count_inputs.specs.declared.status.Status.TheVariants as status;
 ghost use Rattle.sl_count_inputs.specs.declared.verdict.Verdict.TheVariants.{Refused};
 ghost use Rattle.sl_terminal_commands.specs.Ends.{Ends, IsSilent};
-ghost use Rattle.sl_terminal_commands.specs.Sums.{IsComparing, IsOfComparison};
+ghost use Rattle.sl_terminal_commands.specs.Sums.{IsComparing, IsOfComparison, compared_words, library_words, named_status};
 ghost use Rattle.sl_terminal_commands.specs.Frames.{TellsNothing};
 ghost use Rattle.sl_terminal_commands.specs.Said.{OnlyWarns, Says};
-ghost use Rattle.sl_terminal_commands.specs.inner.Verdicts.{EndsWith, IsEndAmong, IsEndOfAll, IsEndVaried, IsOfCompared, IsOfOneOf, IsOfTable, IsOfVaried};
+ghost use Rattle.sl_terminal_commands.specs.inner.Verdicts.{EndsWith, IsEndOfAll, IsEndVaried, IsOfCompared, IsOfOneOf, IsOfTable, IsOfVaried};
 
 use crate::failure::Failure;
 use crate::manner::{Manner, called_inputs};
 use crate::refused_books::{FirstRefused, first_refused};
 use crate::reports::Writing;
+use crate::statutes::{library_words, statutes_of};
 use crate::sums::{NamedBook, NamedReturns};
 use crate::terminal::Terminal;
 use crate::varied::{all_varied, behind, column_words, methods_of};
 use sl_count_inputs::{RefusedBook, RefusedElection, Sink, Status, Verdict};
 use sl_ratio::{Method, NoMemory};
-use sl_report_commands::{Answer, Compared, FullNames, Language, compare_judged, compare_statutes};
+use sl_report_commands::{Answer, Compared, FullNames, Language, compare_judged};
 use sl_stages::{CheckedBook, Returns};
 use sl_terminal_count::Outside;
 use std::alloc::Global;
@@ -49,7 +50,7 @@ fn good_books<'a>(
     Ok(good)
 }
 
-// Good rulebooks on good returns, side by side, with full names; the statutes of the library where none is given.
+// Good rulebooks on good returns, side by side, with full names.
 fn compared(
     alloc: Global,
     books: Vec<NamedBook<'_>>,
@@ -57,11 +58,8 @@ fn compared(
     full: &FullNames,
     language: Language,
 ) -> Result<Answer, NoMemory>
-    ensures { IfOk result (λ a. IsEndAmong false books.entry.items a.status) }
+    ensures { IfOk result (λ a. a.status ≡ status.Done) }
 {
-    if books.is_empty() {
-        return compare_statutes(alloc, returns, full, language);
-    }
     let words = column_words(alloc, books.as_slice())?;
     let good = good_books(alloc, books, words.as_slice())?;
     compare_judged(alloc, good, returns, full, language)
@@ -75,7 +73,7 @@ fn comparison(
     names: Result<FullNames, Answer>,
     language: Language,
 ) -> Result<Answer, NoMemory>
-    ensures { IfOk result (λ a. IsEndAmong (is_err names) books.entry.items a.status) }
+    ensures { IfOk result (λ a. a.status ≡ named_status (is_err names)) }
 {
     match names {
         Ok(full) => compared(alloc, books, election, &full, language),
@@ -93,7 +91,7 @@ impl<O: Outside, W: Sink, E: Sink> Terminal<O, W, E> {
         names: Result<FullNames, Answer>,
         manner: Manner<'_>,
     ) -> Result<Status, Failure<'a, O::Reason>>
-        ensures ends { Ends (λ ends _. IsEndAmong (is_err names) books.entry.items ends) (W.contents self.old.out) (W.contents self.new.out) result }
+        ensures ends { Ends (λ ends _. ends ≡ named_status (is_err names)) (W.contents self.old.out) (W.contents self.new.out) result }
         ensures untold { IfOk result (λ _. TellsNothing self.old self.new) }
     {
         let answer = comparison(self.alloc, books, election, names, manner.style.language)?;
@@ -108,7 +106,7 @@ impl<O: Outside, W: Sink, E: Sink> Terminal<O, W, E> {
         names: Result<FullNames, Answer>,
         manner: Manner<'_>,
     ) -> Result<Status, Failure<'a, O::Reason>>
-        ensures ends { Ends (λ ends _. IsEndAmong (is_err names) books.entry.items ends) (W.contents self.old.out) (W.contents self.new.out) result }
+        ensures ends { Ends (λ ends _. ends ≡ named_status (is_err names)) (W.contents self.old.out) (W.contents self.new.out) result }
         ensures quiet { IfOk result (λ _. self.old.is_quiet ≡ true → self.new.err ≡ self.old.err) }
         ensures told { IfOk result (λ _. IsOfTable election.now (Says E.contents self.old self.new)) }
     {
@@ -216,9 +214,9 @@ impl<O: Outside, W: Sink, E: Sink> Terminal<O, W, E> {
         self.compare(books, methods, returns, names, manner)
     }
 
-    /// Puts the rulebooks of some words side by side, also with the methods of other words, or those of the library where there are none.
+    // Puts the rulebooks of some words side by side, also with the methods of other words.
     #[tactic(auto, using(crate::proofs::Deliveries::ends_early))]
-    pub(crate) fn report_comparison<'a>(
+    fn compare_given<'a>(
         &mut self,
         returns: &'a str,
         books: &[&'a str],
@@ -236,5 +234,49 @@ impl<O: Outside, W: Sink, E: Sink> Terminal<O, W, E> {
         let books = self.books_at(books)?;
         let methods = methods_of(self.alloc, methods)?;
         self.compare_read(books, methods.as_slice(), &returns, writing)
+    }
+
+    // Puts the statutes of the library side by side, also with the methods of words.
+    #[tactic(auto, using(crate::proofs::Deliveries::ends_early))]
+    fn compare_statutes<'a>(
+        &mut self,
+        returns: &'a str,
+        methods: &[&'a str],
+        writing: Writing<'a>,
+    ) -> Result<Status, Failure<'a, O::Reason>>
+        ensures ends { Ends (λ ends _. IsComparing (O.bytes self.old.outside) returns.now library_words (map (λ word. word.now) methods.now)
+            (option_map (λ path. path.now) writing.entry.names) ends) (W.contents self.old.out) (W.contents self.new.out) result }
+        ensures quiet { IfOk result (λ _. self.old.is_quiet ≡ true → self.new.err ≡ self.old.err) }
+        ensures done { IfOk result (λ ends. ends ≡ status.Done → OnlyWarns E.contents self.old self.new) }
+        ensures told { IfOk result (λ _. IsOfComparison (O.bytes self.old.outside) returns.now library_words (map (λ word. word.now) methods.now)
+            (Says E.contents self.old self.new)) }
+    {
+        let returns = self.returns_at(returns)?;
+        let words = library_words(self.alloc)?;
+        let books = statutes_of(self.alloc, words.as_slice())?;
+        let methods = methods_of(self.alloc, methods)?;
+        self.compare_read(books, methods.as_slice(), &returns, writing)
+    }
+
+    /// Puts the rulebooks of some words side by side, or the statutes of the library where there are none, also with the methods of other words.
+    pub(crate) fn report_comparison<'a>(
+        &mut self,
+        returns: &'a str,
+        books: &[&'a str],
+        methods: &[&'a str],
+        writing: Writing<'a>,
+    ) -> Result<Status, Failure<'a, O::Reason>>
+        ensures ends { Ends (λ ends _. IsComparing (O.bytes self.old.outside) returns.now (compared_words (map (λ word. word.now) books.now))
+            (map (λ word. word.now) methods.now) (option_map (λ path. path.now) writing.entry.names) ends) (W.contents self.old.out) (W.contents self.new.out) result }
+        ensures quiet { IfOk result (λ _. self.old.is_quiet ≡ true → self.new.err ≡ self.old.err) }
+        ensures done { IfOk result (λ ends. ends ≡ status.Done → OnlyWarns E.contents self.old self.new) }
+        ensures told { IfOk result (λ _. IsOfComparison (O.bytes self.old.outside) returns.now (compared_words (map (λ word. word.now) books.now))
+            (map (λ word. word.now) methods.now) (Says E.contents self.old self.new)) }
+    {
+        if books.is_empty() {
+            self.compare_statutes(returns, methods, writing)
+        } else {
+            self.compare_given(returns, books, methods, writing)
+        }
     }
 }

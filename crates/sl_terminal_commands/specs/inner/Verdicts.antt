@@ -1,5 +1,5 @@
 -- The end of a command over several inputs that were judged, and of which refusal is told.
-use Rattle.std.specs.Prelude.{All, Bool, Contains, List, None, Option, [], ◌<◌, ◌≡◌, ◌⊎◌, ℕ}
+use Rattle.std.specs.Prelude.{All, Bool, Contains, List, None, Option, ◌<◌, ◌≡◌, ◌⊎◌, ℕ}
 use Rattle.sl_explain_calls.specs.Codes.{book_code, election_code, subject}
 use Rattle.sl_count_inputs.specs.Judging.{tree_verdict}
 use Rattle.sl_count_inputs.specs.declared.refused_book.RefusedBook.{RefusedBook}
@@ -84,14 +84,10 @@ IsOfCompared given books returns Says = IsOfOneOf books returns Says ⊎ ((e : E
 
 -- ---- the end of rulebooks side by side
 
--- good ones are shown with names; those of the library, where none is given, or refused
-abbrev pub IsEndAmong : (is_refused : Bool) → List NamedBook → Status → Type 0
-IsEndAmong is_refused books ends = (ends ≡ named_status is_refused) ⊎ ((books ≡ []) × (ends ≡ status.Refused))
-
--- or one of them is refused by another method
+-- good ones are shown with names, or one of them is refused by another method
 abbrev pub IsEndVaried : (is_refused : Bool) → (given : ℕ) → List NamedBook → Status → Type 0
 IsEndVaried is_refused given books ends =
-    IsEndAmong is_refused books ends ⊎ ((ends ≡ status.Refused) × (v : NamedBook) × IsVariedOf given books v × IsBad v.read.verdict)
+    (ends ≡ named_status is_refused) ⊎ ((ends ≡ status.Refused) × (v : NamedBook) × IsVariedOf given books v × IsBad v.read.verdict)
 
 -- or the returns are refused, or one of the rulebooks
 abbrev pub IsEndOfAll : (is_refused : Bool) → (given : ℕ) → List NamedBook → Verdict Election RefusedElection → Status → Type 0

@@ -98,6 +98,19 @@ fn before(alloc: Global) -> Result<Vec<Instr>, AllocError>
     Vec::from_slice(alloc, &[Instr::Set(0, 8), Instr::Store(AMOUNT, 0)])
 }
 
+// Whether two instructions have the same operation and the same operands.
+fn is_same(left: Instr, right: Instr) -> bool {
+    let (ours, theirs) = (left.operands(), right.operands());
+    let mut pairs = ours.as_slice().iter().zip(theirs.as_slice());
+    left.opcode() == right.opcode() && pairs.all(|(one, other)| one.value() == other.value())
+}
+
+// Whether two codes have the same instructions.
+fn are_same(left: &[Instr], right: &[Instr]) -> bool {
+    let mut pairs = left.iter().zip(right);
+    left.len() == right.len() && pairs.all(|(one, other)| is_same(*one, *other))
+}
+
 // Lays out a block where memory may be refused. Where it is, the code is as it was, and the block is laid out then.
 fn lay_again(alloc: Global, code: &mut Vec<Instr>, block: Block) -> Result<bool, NoMemory>
     requires { vec_len code.old ≤ 199000 }
@@ -108,7 +121,8 @@ fn lay_again(alloc: Global, code: &mut Vec<Instr>, block: Block) -> Result<bool,
     if first.is_ok() {
         return Ok(true);
     }
-    let is_as_it_was = *code == before(alloc)?;
+    let was = before(alloc)?;
+    let is_as_it_was = are_same(code.as_slice(), was.as_slice());
     lay(code, block)?;
     Ok(is_as_it_was)
 }
@@ -118,7 +132,9 @@ fn is_laid(alloc: Global, block: Block) -> Result<bool, NoMemory> {
     let mut code = before(alloc)?;
     let mut whole = before(alloc)?;
     lay(&mut whole, block)?;
-    Ok(lay_again(alloc, &mut code, block)? && code == whole && code.len() > 2)
+    let is_as_it_was = lay_again(alloc, &mut code, block)?;
+    let is_whole = are_same(code.as_slice(), whole.as_slice());
+    Ok(is_as_it_was && is_whole && code.len() > 2)
 }
 
 const BLOCKS: [Block; 5] = [

@@ -1,6 +1,7 @@
-use Rattle.std.proofs.Common.{◌≡◌, ◌+◌, length, get_or, refl, sym, subst, arith}
+use Rattle.std.proofs.Common.{◌≡◌, ◌+◌, ◌∙◌, Some, ap, length, get_or, refl, sym, subst, arith}
 use Rattle.sl_ratio.proofs.Firsts.{Found}
-use Rattle.sl_ratio.proofs.Searches.{last_search, last_more}
+use Rattle.sl_ratio.proofs.Searches.{last_search, last_next}
+use Rattle.sl_ratio.specs.inner.Picks.{lesser}
 use Rattle.sl_law_margins.proofs.Claimants.{last_skipped, least_is}
 use Rattle.sl_law_margins.proofs.claims.least_last.Goals as goal
 use Rattle.sl_law_margins.proofs.claims.least_last.Goals.{then-weight-gt0+then-held-gt0, else-weight-gt0, else-weight-gt0-via-then-weight-gt0+else-held-gt0, else-weight-gt0-via-else-weight-gt0}
@@ -13,9 +14,9 @@ loop-entry-preserved c =
     let n = c.loop-entry.entry in
     elim c.if-weight-gt0.branch [
       | then-weight-gt0+then-held-gt0 w ↦
-          subst (Found (last_search m v s) (n + 1)) (sym w.last-is)
-          (last_more m v s n (n + 1) (get_or v n 0) (get_or s n 0) c.loop-entry.last w.ratio.result w.lesser.result refl refl refl
-          w.if-weight-gt0.true w.if-held-gt0.true w.ratio.ensures w.lesser.ensures c.loop-entry.invariant)
+          last_next m v s n (n + 1) (get_or v n 0) (get_or s n 0) c.loop-entry.last _ refl refl refl w.if-weight-gt0.true
+          (λ some. w.last-is ∙ ap Some (w.lesser.ensures ∙ ap (lesser c.loop-entry.last) w.ratio.ensures))
+          (λ none. let some = w.if-held-gt0.true in absurd (omega (arith, none, some))) c.loop-entry.invariant
       | else-weight-gt0 w ↦
           subst (Found (last_search m v s) (n + 1)) (sym w.last-is)
           (last_skipped m v s n c.loop-entry.last

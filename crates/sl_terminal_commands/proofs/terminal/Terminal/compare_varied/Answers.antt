@@ -4,11 +4,11 @@ use Rattle.sl_count_inputs.specs.declared.status.Input.TheVariants as input
 use Rattle.sl_count_inputs.specs.declared.status.Status.TheVariants as status
 use Rattle.sl_count_inputs.specs.declared.status.Status.{Status}
 use Rattle.sl_terminal_commands.proofs.Deliveries.{ends_wider}
-use Rattle.sl_terminal_commands.proofs.Summaries.{among_front}
 use Rattle.sl_terminal_commands.proofs.Tellings.{ok_wider, table_warns}
 use Rattle.sl_terminal_commands.proofs.terminal.Terminal.compare_varied.Goals as goal
 use Rattle.sl_terminal_commands.specs.Said.{OnlyWarns, Says, fault}
-use Rattle.sl_terminal_commands.specs.inner.Verdicts.{IsEndAmong, IsEndVaried, IsOfTable, IsOfVaried, IsVariedOf}
+use Rattle.sl_terminal_commands.specs.Sums.{named_status}
+use Rattle.sl_terminal_commands.specs.inner.Verdicts.{IsEndVaried, IsOfTable, IsOfVaried, IsVariedOf}
 
 pub returns-in-Some-clause-ends : goal.returns-in-Some-clause-ends
 returns-in-Some-clause-ends g c =
@@ -27,9 +27,8 @@ pub returns-clause-ends : goal.returns-clause-ends
 returns-clause-ends g c =
     let books = c.args.books.items in
     let is = is_err c.args.names in
-    ends_wider (λ ends text. IsEndAmong is c.in_ok-all-in-None.all.items ends) (λ ends text. IsEndVaried is (length c.args.methods.now) books ends) (g.W.Sink.contents c.args.self.now.out)
-    (g.W.Sink.contents c.finish_comparison.new.self.out) c.finish_comparison.result
-    (λ ends text among. inl (among_front is books c.in_ok-varied.varied.items c.in_ok-all-in-None.all.items c.in_ok-all-in-None.ensures ends among)) c.finish_comparison.ensures.ends
+    ends_wider (λ ends text. ends ≡ named_status is) (λ ends text. IsEndVaried is (length c.args.methods.now) books ends) (g.W.Sink.contents c.args.self.now.out)
+    (g.W.Sink.contents c.finish_comparison.new.self.out) c.finish_comparison.result (λ ends text shown. inl shown) c.finish_comparison.ensures.ends
 
 pub returns-in-Some-clause-told : goal.returns-in-Some-clause-told
 returns-in-Some-clause-told g c =

@@ -5,7 +5,7 @@ use Rattle.sl_terminal_commands.proofs.Tellings.{ok_wider, silent_warns}
 use Rattle.sl_terminal_commands.proofs.terminal.Terminal.report.Goals as goal
 use Rattle.sl_terminal_commands.specs.Ends.{Ends, IsSilent}
 use Rattle.sl_terminal_commands.specs.Requests.{IsReportEnd}
-use Rattle.sl_terminal_commands.specs.Sums.{IsComparing, IsOfComparison}
+use Rattle.sl_terminal_commands.specs.Sums.{IsComparing, IsOfComparison, compared_words}
 use Rattle.sl_terminal_commands.specs.Said.{Says}
 use Rattle.sl_terminal_commands.specs.Tellings.{IsOfWhat}
 
@@ -34,7 +34,7 @@ returns-in-Compare-clause-ends g c =
     let old = g.W.Sink.contents c.args.self.now.out in
     let new = g.W.Sink.contents c.report_comparison.new.self.out in
     let words = λ (all : List (Bor (List ℕ))). map (λ (word : Bor (List ℕ)). word.now) all in
-    let Is = λ (books methods : List (Bor (List ℕ))). Ends (λ ends text. IsComparing bytes path (words books) (words methods) names ends) old new c.report_comparison.result in
+    let Is = λ (books methods : List (Bor (List ℕ))). Ends (λ ends text. IsComparing bytes path (compared_words (words books)) (words methods) names ends) old new c.report_comparison.result in
     let of_books = subst (λ all. Is all c.as_slice-methods.result.now) c.as_slice.ensures.value c.report_comparison.ensures.ends in
     let of_both = subst (Is c.in-Compare.books.items) c.as_slice-methods.ensures.value of_books in
     subst (λ what. Ends (λ ends text. IsReportEnd bytes what names ends) old new c.report_comparison.result) (sym c.in-Compare.is) of_both
@@ -45,7 +45,7 @@ returns-in-Compare-clause-told g c =
     let path = c.in-Compare.returns.now in
     let says = Says g.E.Sink.contents c.args.self.now c.report_comparison.new.self in
     let words = λ (all : List (Bor (List ℕ))). map (λ (word : Bor (List ℕ)). word.now) all in
-    let Tells = λ (books methods : List (Bor (List ℕ))). IfOk c.report_comparison.result (λ ends. IsOfComparison bytes path (words books) (words methods) says) in
+    let Tells = λ (books methods : List (Bor (List ℕ))). IfOk c.report_comparison.result (λ ends. IsOfComparison bytes path (compared_words (words books)) (words methods) says) in
     let of_books = subst (λ all. Tells all c.as_slice-methods.result.now) c.as_slice.ensures.value c.report_comparison.ensures.told in
     let of_both = subst (Tells c.in-Compare.books.items) c.as_slice-methods.ensures.value of_books in
     subst (λ what. IfOk c.report_comparison.result (λ ends. IsOfWhat bytes what (option_map (λ path. path.now) c.args.names) says)) (sym c.in-Compare.is) of_both
