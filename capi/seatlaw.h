@@ -95,17 +95,16 @@ enum seatlaw_status seatlaw_run(const char *code, size_t code_length, const char
                                 struct seatlaw_text *answer);
 
 /* The JSON of `seatlaw report` (docs/report.schema.json of the repository), its sentences in English; `names` is a file of full names, or no bytes.
- * A refusal and a legal fault are JSON too, with the line and the explanation. Proved: safe and ending, and of the call behind it the status
- * (`IsReportStatus`). */
+ * A refusal and a legal fault are JSON too, with the line and the explanation. Proved: the status (`IsReported`). */
 enum seatlaw_status seatlaw_report(const char *book, size_t book_length, const char *returns, size_t returns_length,
                                    const char *names, size_t names_length, struct seatlaw_text *answer);
 
-/* The JSON of `seatlaw totals`, in English and also of a refusal; the rulebook may be no bytes. Proved: safe and ending, as of `seatlaw_compare`. */
+/* The JSON of `seatlaw totals`, in English and also of a refusal; the rulebook may be no bytes. Proved: the status (`AreTotalled`). */
 enum seatlaw_status seatlaw_totals(const char *book, size_t book_length, const char *returns, size_t returns_length,
                                    const char *names, size_t names_length, struct seatlaw_text *answer);
 
 /* The JSON of `seatlaw compare`, in English and also of a refusal, by the rulebooks of `words`, one on each line: a word with @ is that of a statute,
- * any other that of `book`. */
+ * any other that of `book`. Proved: the status (`IsCompared`). */
 enum seatlaw_status seatlaw_compare(const char *words, size_t words_length, const char *book, size_t book_length,
                                     const char *returns, size_t returns_length, const char *names, size_t names_length,
                                     struct seatlaw_text *answer);

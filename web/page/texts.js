@@ -104,7 +104,7 @@ const TEXTS = {
   totalsOf: [
     "Länder {0}, Parteien {1}, Listen {2}, Wahlkreissieger {3}, davon ohne Partei {4}.", "Länder {0}, parties {1}, lists {2}, constituency winners {3}, of these without a party {4}.",
   ],
-  totalsNote: ["Vom Programm addiert; die Summen sind getestet, nicht bewiesen.", "Added up by the program; the sums are tested, not proved."],
+  totalsNote: ["Vom Programm addiert; die Summen sind bewiesen, ihre Darstellung ist getestet.", "Added up by the program; the sums are proved, how they are written is tested."],
   party: ["Partei", "Party"],
   valid: ["Stimmen", "Votes"],
   votesPercent: ["Stimmen %", "Votes %"],
@@ -302,9 +302,9 @@ const TEXTS = {
   took: ["{0} ms", "{0} ms"],
   about: ["Was bewiesen ist", "What is proved"],
   aboutText: [
-    "Der Text, den ein Aufruf schreibt, ist der des Programms seatlaw. Bewiesen ist für jedes Gesetz und alle Ergebnisse, dass die Sitze die sind, die das Regelwerk bestimmt, und dass eine Erklärung von dem Fehler spricht, der vorliegt. Berichte, Summen und die Worte der Erklärungen sind getestet. Nicht bewiesen sind die Übersetzung für den Browser, der Browser und diese Seite um die Aufrufe herum: Bild, Tabellen, Anteile, Unterschiede und Ordnungen.",
-    "The text that a call writes is that of the program seatlaw. It is proved for each statute and all returns that the seats are those that the rulebook means, and that an explanation speaks of the fault that there is. Reports, sums and the words of explanations are tested. Not proved are the translation for the browser, the browser, and this page around the calls: the picture, tables, shares, differences and orders.",
+    "Der Text, den ein Aufruf schreibt, ist der des Programms seatlaw. Bewiesen ist für jedes Regelwerk und alle Ergebnisse, dass die Sitze die sind, die das Regelwerk bestimmt, dass die Tabellen der Berichte, Summen und Vergleiche die Zahlen haben, die sich aus beiden ergeben, und dass eine Erklärung von dem Fehler spricht, der vorliegt. Namen, Worte und die Darstellung der Tabellen sind getestet. Nicht bewiesen sind die Übersetzung für den Browser, der Browser und diese Seite um die Aufrufe herum: Bild, Tabellen, Anteile, Unterschiede und Ordnungen.",
+    "The text that a call writes is that of the program seatlaw. It is proved for every rulebook and all returns that the seats are those that the rulebook means, that the tables of reports, sums and comparisons have the numbers that follow from both, and that an explanation speaks of the fault that there is. Names, words and how a table is written are tested. Not proved are the translation for the browser, the browser, and this page around the calls: the picture, tables, shares, differences and orders.",
   ],
-  provedShort: ["Die Sitze sind bewiesen, Summen und Berichte getestet.", "The seats are proved, sums and reports tested."],
+  provedShort: ["Sitze und Zahlen der Berichte sind bewiesen, Namen und Worte getestet.", "Seats and the numbers of reports are proved, names and words tested."],
   sumOf: ["SHA-256 des Moduls: {0}", "SHA-256 of the module: {0}"],
 };
