@@ -6,7 +6,8 @@
     python3 bench/proof_costs.py CRATE MODULE::FUNCTION  these functions alone, and those of the crate that they stand on
 
 It checks from nothing with one job, over libraries that are built, and tells the seconds between the modules that the prover writes
-one after the other. The first function has the start of the crate in its figure. Compare only figures of one machine that does little
+one after the other: of each function all of them, and those of its proof alone, where goals are searched for. Where that second figure is
+large, an answer in the function's Answers.antt may take a tenth of it. The first function has the start of the crate in its figure. Compare only figures of one machine that does little
 else: beside four other checks they are two to three times as large. Where another checkout on the machine keeps a check of the same
 crate, `rt check` begins with that, and the figures mean nothing: remove its out/incremental first.
 """
@@ -44,12 +45,15 @@ def main(crate, words):
     run = subprocess.run(["rt", "check", "--jobs", "1", *flags], cwd=folder, stdout=subprocess.PIPE, text=True)
     print(f"{time.time() - begin:7.1f} s in all: {(run.stdout.splitlines() or ['no answer'])[-1][:70]}")
     files = [it for it in kept.glob("**/*.oantt") if it.parent.name != "records"]
-    costs, before = collections.Counter(), begin
+    costs, proofs, before = collections.Counter(), collections.Counter(), begin
     for written, file in sorted((it.stat().st_mtime_ns / 1e9, it.stem) for it in files):
-        costs[name_of(file, crate)] += written - before
+        name = name_of(file, crate)
+        costs[name] += written - before
+        if file.endswith(".Proof"):
+            proofs[name] += written - before
         before = written
     for name, seconds in costs.most_common(40):
-        print(f"{seconds:7.1f} {name}")
+        print(f"{seconds:7.1f} {proofs[name]:7.1f} {name}")
     return run.returncode
 
 

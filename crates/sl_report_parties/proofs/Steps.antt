@@ -7,7 +7,7 @@ use Rattle.std.proofs.lemmas.Bool.{cond-true, cond-false, lt-ltb, le-ltb, cases_
 use Rattle.std.proofs.lemmas.List.FromFn.{sum_by-map-range_with_len_more, map-range_with_len_more}
 use Rattle.std.proofs.lemmas.Option.{get_or_from_slice_get, slice_get_within, slice_get-get_or}
 use Rattle.std.proofs.lemmas.Slice.Zip.{length-zip, get_or-zip}
-use Rattle.std.proofs.lemmas.List.{take_more, map_push, map-id, map-append, append-nil}
+use Rattle.std.proofs.lemmas.List.{take_all, take_more, map_push, map-id, map-append, append-nil}
 use Rattle.std.proofs.lemmas.List.Concat.{flat_map-append}
 use Rattle.std.proofs.lemmas.List.Elements.{filter-append}
 use Rattle.sl_report_parties.specs.Sums.{one_if}
@@ -138,3 +138,14 @@ kept_more {X} {Y} f p xs n x ys zs there so_far pushed =
     of_one : (b : Bool) → map f (if b then x ∷ [] else []) ≡ (if b then f x ∷ [] else [])
     of_one true = refl
     of_one false = refl
+
+-- what passes of one element more is added
+pub filter_pushed : {X : Type 0} (p : X → Bool) (xs : List X) (n : ℕ) (x : X) (ys zs : List X) → slice_get xs n ≡ Some x → ys ≡ filter p (take n xs) → zs ≡ ys ++ filter p (x ∷ []) → zs ≡ filter p (take (n + 1) xs)
+filter_pushed p xs n x ys zs at so_far more = more ∙ ap (λ v. v ++ filter p (x ∷ [])) so_far ∙ sym (filter_next p xs n x at)
+
+-- a loop that has gone over all of a list, or over all numbers below an end
+pub at_end : {X Y : Type 0} (f : List X → Y) (xs : List X) (i : ℕ) (y : Y) → length xs ≤ i → y ≡ f (take i xs) → y ≡ f xs
+at_end f xs i y all before = before ∙ ap f (take_all i xs all)
+
+pub at_last : {Y : Type 0} (f : List ℕ → Y) (n m : ℕ) (y : Y) → n ≡ m → y ≡ f (range_with_len 0 n) → y ≡ f (range_with_len 0 m)
+at_last f n m y is before = before ∙ ap (λ k. f (range_with_len 0 k)) is

@@ -8,3 +8,4 @@ pub mod ScopeSteps
 pub mod Before
 pub mod Borders
 pub mod DrawnLots
+pub mod Pushed

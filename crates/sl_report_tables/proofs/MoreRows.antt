@@ -84,3 +84,7 @@ pub rows_of_pairs : {A B : Type 0} (f : A × B → List Content) (p : A × B →
 rows_of_pairs f p xs given ys i t blank after same past is so_far =
     so_far ∙ ap (λ b. with_rows b (map f (filter p (take i (zip xs given))))) is
     ∙ ap (λ zs. with_rows blank (map f (filter p zs))) (take_all i (zip xs given) (omega (arith, past, length-zip xs given)) ∙ ap (zip xs) same)
+
+-- all rows, over a table that is blank
+pub rows_end : {X : Type 0} (f : List X → List (List Content)) (xs : List X) (i : ℕ) (t blank after : Table) → length xs ≤ i → t ≡ blank → after ≡ with_rows t (f (take i xs)) → after ≡ with_rows blank (f xs)
+rows_end f xs i t blank after past is so_far = so_far ∙ ap (λ ys. with_rows t (f ys)) (take_all i xs past) ∙ ap (λ b. with_rows b (f xs)) is

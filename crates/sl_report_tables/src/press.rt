@@ -215,8 +215,7 @@ fn press_sheet(
     let mut sheet = titled(alloc, naming, "press", PRESS_TITLE, &PRESS)?;
     push_each(alloc, &mut sheet, naming, found.as_slice(), valid)?;
     push_gone_from(alloc, &mut sheet, naming, earlier)?;
-    push_sum(alloc, &mut sheet, naming, table, earlier, valid)?;
-    Ok(sheet)
+    push_sum(alloc, &mut sheet, naming, table, earlier, valid).and(Ok(sheet))
 }
 
 // Whether a scope is the whole country.
@@ -313,8 +312,7 @@ fn lacking_sheet(
     let conditions = setting.book.eligible.as_slice();
     let found = left_out(alloc, setting)?;
     let mut sheet = titled(alloc, naming, "left_out", LEFT_OUT_TITLE, &LEFT_OUT)?;
-    push_first(alloc, &mut sheet, conditions, naming, found.as_slice())?;
-    Ok(sheet)
+    push_first(alloc, &mut sheet, conditions, naming, found.as_slice()).and(Ok(sheet))
 }
 
 /// The sheets of a press report on one count: the law; the parties with seats or constituencies, in the order of their seats, and all together, beside

@@ -352,8 +352,7 @@ pub(crate) fn blank(
     ensures { IfOk result (λ s. table_of s ≡ blank_table key.now (map (λ f. f.0.now) forms.now)) }
 {
     let mut sheet = Sheet::new(alloc, key, title);
-    push_columns(alloc, &mut sheet, naming.language, forms)?;
-    Ok(sheet)
+    push_columns(alloc, &mut sheet, naming.language, forms).and(Ok(sheet))
 }
 
 /// A sheet without rows, under a title.
@@ -382,8 +381,7 @@ pub(crate) fn one_row_sheet(
     ensures { IfOk result (λ s. table_of s ≡ with_rows (blank_table key.now (map (λ f. f.0.now) forms.now)) (flat_map cells_of parts.now ∷ [])) }
 {
     let mut sheet = titled(alloc, naming, key, title, forms)?;
-    push_row(alloc, &mut sheet, naming, parts)?;
-    Ok(sheet)
+    push_row(alloc, &mut sheet, naming, parts).and(Ok(sheet))
 }
 
 /// Adds a sheet, if there was memory for it.

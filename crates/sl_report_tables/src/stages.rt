@@ -94,8 +94,7 @@ fn stages_sheet(
 {
     let mut sheet = titled(alloc, naming, "stages", STAGES_TITLE, &STAGES)?;
     let types = types_of(book.stages.as_slice());
-    push_stages(alloc, &mut sheet, book, naming, &types, columns)?;
-    Ok(sheet)
+    push_stages(alloc, &mut sheet, book, naming, &types, columns).and(Ok(sheet))
 }
 
 // Adds the row of a column of one number.
@@ -180,8 +179,7 @@ fn cells_sheet(
     let word = STAGE_TITLE.in_language(naming.language);
     let title = format!(in alloc; "{word} {stage}")?;
     let mut sheet = blank(alloc, naming, "cells", title, &CELLS)?;
-    push_cells(alloc, &mut sheet, stage, naming, column)?;
-    Ok(sheet)
+    push_cells(alloc, &mut sheet, stage, naming, column).and(Ok(sheet))
 }
 
 /// The sheets of all stages of a count.

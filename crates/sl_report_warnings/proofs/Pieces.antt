@@ -14,5 +14,8 @@ pieces_behind f n front xs ys so_far joined =
     joined ∙ ap (λ zs. zs ++ f n) so_far ∙ append_assoc front (flat_map f (range_with_len 0 n)) (f n)
     ∙ ap (λ zs. front ++ zs) (pieces_more f n (flat_map f (range_with_len 0 n)) (flat_map f (range_with_len 0 n) ++ f n) refl refl)
 
+pub pieces_end : {X : Type 0} (f : ℕ → List X) (n m : ℕ) (front xs : List X) → n ≡ m → xs ≡ front ++ flat_map f (range_with_len 0 n) → xs ≡ front ++ flat_map f (range_with_len 0 m)
+pieces_end f n m front xs is so_far = so_far ∙ ap (λ k. front ++ flat_map f (range_with_len 0 k)) is
+
 pub numbered : (b : BookTree) (e : Election) (n : ℕ) (lot : Lot) → slice_get e.lots n ≡ Some lot → of_numbered b e n ≡ of_lot b e n lot
 numbered b e n lot there = rw there refl

@@ -1,7 +1,7 @@
 -- A builder that takes one record more, or leaves it out for its fault.
-use Rattle.std.proofs.Common.{◌≡◌, ◌≢◌, ◌+◌, ℕ, List, [], ◌∷◌, ◌++◌, length, slice_get, Option, Some, None, is_some, false, refl, sym, ap, subst, ◌∙◌, arith, inl, inr}
+use Rattle.std.proofs.Common.{◌≡◌, ◌≢◌, ◌+◌, ℕ, List, [], ◌∷◌, ◌++◌, length, slice_get, Option, Some, None, is_some, true, false, refl, sym, ap, subst, ◌∙◌, arith, inl, inr}
 use Rattle.std.specs.Option.{option_map}
-use Rattle.std.proofs.lemmas.Bool.{true≢false}
+use Rattle.std.proofs.lemmas.Bool.{false≢true, true≢false}
 use Rattle.std.proofs.lemmas.List.{append-nil}
 use Rattle.std.proofs.lemmas.Option.{none-some}
 use Rattle.sl_stages.specs.returns.Election.{Election}
@@ -187,3 +187,14 @@ pub has_ended : (b : Building) (kept : Refusals) (rs : List Record) (r : Record)
 has_ended b kept rs r found s none keeps more =
     let (f, is, all) = s.ends (unversioned b.version none) more in
     ended b kept rs ((rs ++ r ∷ []) ++ more) (record { fault = f; fields = r }) (all ∙ ap (λ o. refused_of rs ++ refusals_for o r) is) (subst (λ o. Keeps kept (refused_of rs ++ refusals_for o r)) is keeps)
+
+-- after a header there is more to read
+versioned : (o : Option Version) → is_some o ≡ true → (v : Version) × (o ≡ Some v)
+versioned None h = absurd (false≢true h)
+versioned (Some v) h = (v, refl)
+
+pub goes_on : (b : Building) (kept : Refusals) (rs : List Record) (r : Record) (found : Option ReturnsFault) → Sifts b rs r found → is_some b.version ≡ true → Keeps kept (refused_of rs ++ refusals_for found r) → GoesOn b kept (rs ++ r ∷ [])
+goes_on b kept rs r found s told keeps =
+    let (v, is) = versioned b.version told in
+    let (sifted, all) = s.goes v is in
+    (sifted, subst (λ l. Keeps kept l) (sym all) keeps)

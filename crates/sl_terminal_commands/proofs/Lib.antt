@@ -1,6 +1,6 @@
 mod Deliveries
 mod Exits
-mod Files
+mod Known
 mod LibraryWords
 mod Shown
 mod Summaries

@@ -1,9 +1,8 @@
 //! The command that writes a code file: a file that would be missed is not written.
 
-ghost use Rattle.std.specs.Prelude.{◌≡◌, IfErr, IfOk, IfSome, Some};
-ghost use Rattle.sl_desk.specs.Compiling.{IsCompilingOutput};
+ghost use Rattle.std.specs.Prelude.{◌≡◌, IfErr, IfOk, IfSome, List, Some, ℕ};
+ghost use Rattle.sl_desk.specs.Compiling.{IsCompiling};
 ghost use Rattle.sl_explain_calls.specs.Codes.{check_subject};
-ghost use Rattle.sl_count_inputs.specs.Books.{IsBookVerdict};
 ghost use Rattle.sl_count_inputs.specs.Judging.{tree_verdict};
 ghost use Rattle.sl_terminal_count.specs.Inputs.{named_input};
 ghost use Rattle.sl_terminal_commands.specs.Ends.{Ends, IsEarly, IsSilent};
@@ -15,9 +14,9 @@ ghost use Rattle.sl_terminal_commands.specs.Tellings.{IsOfBook};
 
 use crate::failure::Failure;
 use crate::terminal::Terminal;
-use sl_count_inputs::{Bytes, Input, MAX_CODE_BYTES, ReadBook, Sink, Status, read_all, read_book};
+use sl_count_inputs::{Bytes, Input, MAX_CODE_BYTES, ReadBook, Sink, Status, read_all};
 use sl_desk::{Compilation, compilation_of};
-use sl_terminal_count::{Outside, open_book};
+use sl_terminal_count::Outside;
 
 // How each code file begins.
 const OPENING: &[u8] = b"SLC\x01";
@@ -59,25 +58,6 @@ impl<O: Outside, W: Sink, E: Sink> Terminal<O, W, E> {
         } else {
             Err(Failure::Kept(path))
         }
-    }
-
-    // A rulebook that is read, and what compiling writes of it, if the file at a path may be lost.
-    fn compiled<'a>(
-        &self,
-        book: &'a str,
-        path: &'a str,
-        is_forced: bool,
-    ) -> Result<(ReadBook<'a>, Compilation), Failure<'a, O::Reason>>
-        ensures answer { IfOk result (λ both. IfSome (named_input (O.bytes self.now.outside) book.now) (λ input.
-            IsCompilingOutput input both.1.answer.status both.1.file.items both.1.answer.text.items)) }
-        ensures verdict { IfOk result (λ both. IfSome (named_input (O.bytes self.now.outside) book.now) (λ input. IsBookVerdict input (tree_verdict both.0.verdict))) }
-        ensures early { IfErr result IsEarly }
-    {
-        let mut source = open_book(&self.outside, book)?;
-        let read = read_book(self.alloc, &mut source)?;
-        let compilation = compilation_of(self.alloc, &read.verdict)?;
-        self.look_at(path, read.text.as_slice(), is_forced)?;
-        Ok((read, compilation))
     }
 
     // Writes the file of a code, and then its listing to standard output; of a refused rulebook an empty file, and then the refusal.
@@ -124,8 +104,28 @@ impl<O: Outside, W: Sink, E: Sink> Terminal<O, W, E> {
         Ok(status)
     }
 
-    // Compiles a rulebook. Where it is refused, the file is left empty.
+    // Compiles a rulebook that was read, if the file at the path may be lost.
     #[tactic(auto, using(crate::proofs::Deliveries::ends_early))]
+    fn compile_read<'a>(
+        &mut self,
+        read: &ReadBook<'_>,
+        book: &str,
+        path: &'a str,
+        is_forced: bool,
+    ) -> Result<Status, Failure<'a, O::Reason>>
+        ensures ends { Ends (λ status text. (code : List ℕ) × IsCompiling (tree_verdict read.now.verdict) status code text)
+            (W.contents self.old.out) (W.contents self.new.out) result }
+        ensures silent { IfOk result (λ ends. IsSilent self.old.is_quiet ends → self.new.err ≡ self.old.err) }
+        ensures told { IfOk result (λ _. Says E.contents self.old self.new (said_of (check_subject read.now.verdict))) }
+        ensures file { O.tells_made self.old.outside → IfOk result (λ status. (code text : List ℕ)
+            × IsCompiling (tree_verdict read.now.verdict) status code text × (O.bytes self.new.outside path.now ≡ Some code)) }
+    {
+        self.look_at(path, read.text.as_slice(), is_forced)?;
+        let compilation = compilation_of(self.alloc, &read.verdict)?;
+        self.finish_code(read, &compilation, book, path)
+    }
+
+    // Compiles a rulebook. Where it is refused, the file is left empty.
     pub(crate) fn code<'a>(
         &mut self,
         book: &'a str,
@@ -138,7 +138,13 @@ impl<O: Outside, W: Sink, E: Sink> Terminal<O, W, E> {
         ensures told { IfOk result (λ _. IsOfBook (O.bytes self.old.outside) book.now (Says E.contents self.old self.new)) }
         ensures file { O.tells_made self.old.outside → IfOk result (λ ends. HasCode (O.bytes self.old.outside) book.now ends (O.bytes self.new.outside path.now)) }
     {
-        let (read, compilation) = self.compiled(book, path, is_forced)?;
-        self.finish_code(&read, &compilation, book, path)
+        match self.book_at(book) {
+            Ok(named) => {
+                let ended = self.compile_read(&named.read, book, path, is_forced);
+                drop(named);
+                ended
+            }
+            Err(failure) => Err(failure),
+        }
     }
 }

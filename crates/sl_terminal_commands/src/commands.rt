@@ -4,12 +4,11 @@ ghost use Rattle.std.specs.Io.KnownBytes.{Keeps};
 ghost use Rattle.std.specs.Prelude.{◌≡◌, IfErr, IfOk, IfSome, Some, false, true};
 ghost use Rattle.sl_count_calls.specs.Shows.{IsShownOutput};
 ghost use Rattle.sl_count_calls.specs.Views.{records_for, stage_of};
-ghost use Rattle.sl_desk.specs.Checking.{IsCheckOutput};
-ghost use Rattle.sl_desk.specs.JudgedRuns.{IsJudged as IsJudgedRun};
+ghost use Rattle.sl_desk.specs.Checking.{IsCheck, IsCheckOutput};
+ghost use Rattle.sl_desk.specs.JudgedRuns.{FitsJudged, IsJudged as IsJudgedRun, IsRunAnswer};
 ghost use Rattle.sl_desk.specs.Running.{IsRunCode};
 ghost use Rattle.sl_explain_texts.specs.declared.code.FaultCode.TheVariants.{B01};
 ghost use Rattle.sl_explain_calls.specs.Codes.{check_subject, run_subject, subject};
-ghost use Rattle.sl_count_inputs.specs.Books.{IsBookVerdict};
 ghost use Rattle.sl_count_inputs.specs.Judging.{tree_verdict};
 ghost use Rattle.sl_count_inputs.specs.Library.{IsLawOutput};
 ghost use Rattle.sl_count_inputs.specs.Reading.{ForKnown};
@@ -28,7 +27,7 @@ use crate::failure::Failure;
 use crate::telling::ReadFile;
 use crate::terminal::Terminal;
 use sl_count_calls::Answer;
-use sl_count_inputs::{Input, ReadBook, RefusedBook, Sink, Status, read_book};
+use sl_count_inputs::{Input, ReadBook, RefusedBook, Sink, Status};
 use sl_desk::{ReadRun, View, check_answer, judge_run, law_text, run_answer, show};
 use sl_explain_calls::{explain_book, explain_run};
 use sl_explain_codes::text_about;
@@ -93,18 +92,6 @@ impl<O: Outside, W: Sink, E: Sink> Terminal<O, W, E> {
         }
     }
 
-    // A rulebook that is read, and what checking writes of it.
-    fn checked<'a>(&self, book: &'a str) -> Result<(ReadBook<'a>, Answer), Failure<'a, O::Reason>>
-        ensures answer { IfOk result (λ both. IfSome (named_input (O.bytes self.now.outside) book.now) (λ input. IsCheckOutput input both.1.status both.1.text.items)) }
-        ensures verdict { IfOk result (λ both. IfSome (named_input (O.bytes self.now.outside) book.now) (λ input. IsBookVerdict input (tree_verdict both.0.verdict))) }
-        ensures early { IfErr result IsEarly }
-    {
-        let mut source = open_book(&self.outside, book)?;
-        let read = read_book(self.alloc, &mut source)?;
-        let answer = check_answer(self.alloc, &read.verdict)?;
-        Ok((read, answer))
-    }
-
     // Writes what checking comes to, and tells why a rulebook is refused, if it is.
     fn finish_check<'a>(
         &mut self,
@@ -121,34 +108,48 @@ impl<O: Outside, W: Sink, E: Sink> Terminal<O, W, E> {
         Ok(status)
     }
 
-    // Checks a rulebook.
+    // Checks a rulebook that was read.
     #[tactic(auto, using(crate::proofs::Deliveries::ends_early))]
+    fn check_read<'a>(
+        &mut self,
+        read: &ReadBook<'_>,
+        book: &'a str,
+    ) -> Result<Status, Failure<'a, O::Reason>>
+        ensures ends { Ends (IsCheck (tree_verdict read.now.verdict)) (W.contents self.old.out) (W.contents self.new.out) result }
+        ensures silent { IfOk result (λ ends. IsSilent self.old.is_quiet ends → self.new.err ≡ self.old.err) }
+        ensures told { IfOk result (λ _. Says E.contents self.old self.new (said_of (check_subject read.now.verdict))) }
+    {
+        let answer = check_answer(self.alloc, &read.verdict)?;
+        self.finish_check(read, &answer, book)
+    }
+
+    // Checks a rulebook.
     fn check<'a>(&mut self, book: &'a str) -> Result<Status, Failure<'a, O::Reason>>
         ensures ends { Ends (λ status text. IfSome (named_input (O.bytes self.old.outside) book.now) (λ input.
             IsCheckOutput input status text)) (W.contents self.old.out) (W.contents self.new.out) result }
         ensures silent { IfOk result (λ ends. IsSilent self.old.is_quiet ends → self.new.err ≡ self.old.err) }
         ensures told { IfOk result (λ _. IsOfBook (O.bytes self.old.outside) book.now (Says E.contents self.old self.new)) }
     {
-        let (read, answer) = self.checked(book)?;
-        self.finish_check(&read, &answer, book)
+        match self.book_at(book) {
+            Ok(named) => {
+                let ended = self.check_read(&named.read, book);
+                drop(named);
+                ended
+            }
+            Err(failure) => Err(failure),
+        }
     }
 
-    // A code file and returns that are read and judged, and what running writes of them.
-    fn judged_run<'a>(
-        &self,
-        code: &'a str,
-        returns: &'a str,
-    ) -> Result<(ReadRun, Answer), Failure<'a, O::Reason>>
-        ensures answer { IfOk result (λ both. ForKnown (O.bytes self.now.outside code.now) (O.bytes self.now.outside returns.now) (λ file bytes.
-            IsRunCode file bytes both.1.status both.1.text.items)) }
-        ensures judged { IfOk result (λ both. ForKnown (O.bytes self.now.outside code.now) (O.bytes self.now.outside returns.now) (λ file bytes. IsJudgedRun file bytes both.0.judged)) }
+    // What a code file and returns come to.
+    fn run_at<'a>(&self, code: &'a str, returns: &'a str) -> Result<ReadRun, Failure<'a, O::Reason>>
+        ensures judged { IfOk result (λ read. ForKnown (O.bytes self.now.outside code.now) (O.bytes self.now.outside returns.now) (λ file bytes.
+            IsJudgedRun file bytes read.judged)) }
+        ensures fits { IfOk result (λ read. FitsJudged read.judged) }
         ensures early { IfErr result IsEarly }
     {
         let mut source = open(&self.outside, code, Input::Code)?;
         let mut file = open(&self.outside, returns, Input::Returns)?;
-        let read = judge_run(self.alloc, &mut source, &mut file)?;
-        let answer = run_answer(self.alloc, &read.judged)?;
-        Ok((read, answer))
+        Ok(judge_run(self.alloc, &mut source, &mut file)?)
     }
 
     // Writes what a code file and returns come to, and tells why they were not run to a table.
@@ -181,8 +182,24 @@ impl<O: Outside, W: Sink, E: Sink> Terminal<O, W, E> {
         Ok(status)
     }
 
-    // Runs a code file on returns.
+    // Writes what a code file and returns come to that were read.
     #[tactic(auto, using(crate::proofs::Deliveries::ends_early))]
+    fn run_read<'a>(
+        &mut self,
+        read: &ReadRun,
+        code: &'a str,
+        returns: &'a str,
+    ) -> Result<Status, Failure<'a, O::Reason>>
+        requires fits { FitsJudged read.now.judged }
+        ensures ends { Ends (IsRunAnswer read.now.judged) (W.contents self.old.out) (W.contents self.new.out) result }
+        ensures silent { IfOk result (λ ends. IsSilent self.old.is_quiet ends → self.new.err ≡ self.old.err) }
+        ensures told { IfOk result (λ _. Says E.contents self.old self.new (said_of (run_subject read.now.judged))) }
+    {
+        let answer = run_answer(self.alloc, &read.judged)?;
+        self.finish_run(read, &answer, code, returns)
+    }
+
+    // Runs a code file on returns.
     fn run_code<'a>(
         &mut self,
         code: &'a str,
@@ -193,8 +210,14 @@ impl<O: Outside, W: Sink, E: Sink> Terminal<O, W, E> {
         ensures silent { IfOk result (λ ends. IsSilent self.old.is_quiet ends → self.new.err ≡ self.old.err) }
         ensures told { IfOk result (λ _. IsOfRun (O.bytes self.old.outside) code.now returns.now (Says E.contents self.old self.new)) }
     {
-        let (read, answer) = self.judged_run(code, returns)?;
-        self.finish_run(&read, &answer, code, returns)
+        match self.run_at(code, returns) {
+            Ok(read) => {
+                let ended = self.run_read(&read, code, returns);
+                drop(read);
+                ended
+            }
+            Err(failure) => Err(failure),
+        }
     }
 
     // Tells that the library has no statute of a name.

@@ -14,7 +14,7 @@ ghost use Rattle.sl_terminal_commands.specs.Ends.{Ends, IsEarly};
 ghost use Rattle.sl_terminal_commands.specs.Requests.{IsReportEnd};
 ghost use Rattle.sl_terminal_commands.specs.Said.{OnlyWarns, Says, judged_said};
 ghost use Rattle.sl_terminal_commands.specs.Tellings.{IsOfWhat, warns_of};
-ghost use Rattle.sl_terminal_commands.specs.inner.Reports.{AreBesideIn, IsOfReportIn, IsReadFrom, IsReportIn, IsShownBy, SaysBy};
+ghost use Rattle.sl_terminal_commands.specs.inner.Reports.{AreBesideIn, IsEndOfJudged, IsOfJudged, IsOfReportIn, IsReadFrom, IsReportIn, IsShownBy, SaysBy};
 
 use crate::failure::Failure;
 use crate::terminal::Terminal;
@@ -149,26 +149,6 @@ impl<O: Outside, W: Sink, E: Sink> Terminal<O, W, E> {
         Ok(answer_judged(self.alloc, show, judged, &names, language)?)
     }
 
-    // What a rulebook and returns come to, and the answer to it.
-    fn reported<'a>(
-        &self,
-        show: Show<'_>,
-        book: &'a str,
-        returns: &'a str,
-        writing: Writing<'a>,
-    ) -> Result<(Read<'a>, Result<Answer, Answer>), Failure<'a, O::Reason>>
-        ensures judged { IfOk result (λ both. ForKnown (named_input (O.bytes self.now.outside) book.now) (O.bytes self.now.outside returns.now) (λ input bytes.
-            IsJudged Kept None input bytes both.0.judged)) }
-        ensures which { IfOk result (λ both. (is_refused : Bool) × AreBesideIn (O.bytes self.now.outside) writing.entry is_refused × (is_err both.1 ≡ is_stopped is_refused both.0.judged)) }
-        ensures shown { IfOk result (λ both. IfOk both.1 (λ a. a.status ≡ judged_status both.0.judged)) }
-        ensures refused { IfOk result (λ both. IfErr both.1 (λ a. a.status ≡ status.Refused)) }
-        ensures early { IfErr result IsEarly }
-    {
-        let read = self.judged_at(book, returns)?;
-        let answer = self.answer_to(show, &read.judged, writing)?;
-        Ok((read, answer))
-    }
-
     // Writes the text that reports of a rulebook and returns, and tells why they yield no table, if they don't; or writes the refusal of the names.
     fn finish_report<'a>(
         &mut self,
@@ -193,8 +173,49 @@ impl<O: Outside, W: Sink, E: Sink> Terminal<O, W, E> {
         }
     }
 
-    // Counts by a rulebook and reports.
+    // Writes what an answer shows or refuses, and tells why a rulebook and returns yield no table, if they don't.
     #[tactic(auto, using(crate::proofs::Deliveries::ends_early))]
+    fn write_report<'a>(
+        &mut self,
+        show: Show<'_>,
+        read: &Read<'_>,
+        answer: &Result<Answer, Answer>,
+        book: &'a str,
+        returns: &'a str,
+        style: Style,
+    ) -> Result<Status, Failure<'a, O::Reason>>
+        ensures ends { Ends (λ ends _. IsShownBy answer.now ends) (W.contents self.old.out) (W.contents self.new.out) result }
+        ensures quiet { IfOk result (λ _. self.old.is_quiet ≡ true → self.new.err ≡ self.old.err) }
+        ensures done { IfOk result (λ ends. ends ≡ status.Done → OnlyWarns E.contents self.old self.new) }
+        ensures told { IfOk result (λ _. SaysBy answer.now (judged_said read.now.judged) (Says E.contents self.old self.new)) }
+    {
+        let texts = texts_of(book, read);
+        let text = judged_text(self.alloc, show, answer, &read.judged, texts, style)?;
+        self.finish_report(read, answer, text.as_slice(), book, returns)
+    }
+
+    // Reports what a rulebook and returns come to that were read.
+    #[tactic(auto, using(crate::proofs::Deliveries::ends_early))]
+    fn report_read<'a>(
+        &mut self,
+        show: Show<'_>,
+        read: &Read<'_>,
+        book: &'a str,
+        returns: &'a str,
+        writing: Writing<'a>,
+    ) -> Result<Status, Failure<'a, O::Reason>>
+        requires fits { FitsJudged Kept read.now.judged }
+        ensures ends { Ends (λ ends _. IsEndOfJudged (O.bytes self.old.outside) writing.entry read.now.judged ends)
+            (W.contents self.old.out) (W.contents self.new.out) result }
+        ensures quiet { IfOk result (λ _. self.old.is_quiet ≡ true → self.new.err ≡ self.old.err) }
+        ensures done { IfOk result (λ ends. ends ≡ status.Done → OnlyWarns E.contents self.old self.new) }
+        ensures told { IfOk result (λ _. IsOfJudged (O.bytes self.old.outside) writing.entry read.now.judged (Says E.contents self.old self.new)) }
+    {
+        let answer = self.answer_to(show, &read.judged, writing)?;
+        self.write_report(show, read, &answer, book, returns, writing.style)
+    }
+
+    // Counts by a rulebook and reports.
     fn report_count<'a>(
         &mut self,
         show: Show<'_>,
@@ -208,19 +229,14 @@ impl<O: Outside, W: Sink, E: Sink> Terminal<O, W, E> {
         ensures done { IfOk result (λ ends. ends ≡ status.Done → OnlyWarns E.contents self.old self.new) }
         ensures told { IfOk result (λ _. IsOfReportIn (O.bytes self.old.outside) book.now returns.now writing.entry (Says E.contents self.old self.new)) }
     {
-        let (read, answer) = self.reported(show, book, returns, writing)?;
-        let texts = texts_of(book, &read);
-        let text = judged_text(
-            self.alloc,
-            show,
-            &answer,
-            &read.judged,
-            texts,
-            writing.style,
-        )?;
-        let ended = self.finish_report(&read, &answer, text.as_slice(), book, returns);
-        drop(read);
-        ended
+        match self.judged_at(book, returns) {
+            Ok(read) => {
+                let ended = self.report_read(show, &read, book, returns, writing);
+                drop(read);
+                ended
+            }
+            Err(failure) => Err(failure),
+        }
     }
 
     /// Writes a report to standard output.

@@ -1,10 +1,11 @@
 //! The command that puts rulebooks side by side on returns. Each input is read and judged once.
 
-ghost use Rattle.std.specs.Prelude.{◌≡◌, IfOk, None, is_err, length, map, option_map, true};
+ghost use Rattle.std.specs.Prelude.{◌≡◌, ◌≤◌, All, IfOk, List, None, is_err, length, map, option_map, true, ℕ};
+ghost use Rattle.sl_count_inputs.specs.Judging.{election_verdict, tree_verdict};
 ghost use Rattle.sl_count_inputs.specs.declared.status.Status.TheVariants as status;
 ghost use Rattle.sl_count_inputs.specs.declared.verdict.Verdict.TheVariants.{Refused};
 ghost use Rattle.sl_terminal_commands.specs.Ends.{Ends, IsSilent};
-ghost use Rattle.sl_terminal_commands.specs.Sums.{IsComparing, IsOfComparison, compared_words, library_words, named_status};
+ghost use Rattle.sl_terminal_commands.specs.Sums.{AreJudged, IsComparing, IsOfComparison, IsVerdictOn, compared_words, library_words, named_status};
 ghost use Rattle.sl_terminal_commands.specs.Frames.{TellsNothing};
 ghost use Rattle.sl_terminal_commands.specs.Said.{OnlyWarns, Says};
 ghost use Rattle.sl_terminal_commands.specs.inner.Verdicts.{EndsWith, IsEndOfAll, IsEndVaried, IsOfCompared, IsOfOneOf, IsOfTable, IsOfVaried};
@@ -17,7 +18,7 @@ use crate::statutes::{library_words, statutes_of};
 use crate::sums::{NamedBook, NamedReturns};
 use crate::terminal::Terminal;
 use crate::varied::{all_varied, behind, column_words, methods_of};
-use sl_count_inputs::{RefusedBook, RefusedElection, Sink, Status, Verdict};
+use sl_count_inputs::{DeskError, RefusedBook, RefusedElection, Sink, Status, Verdict};
 use sl_ratio::{Method, NoMemory};
 use sl_report_commands::{Answer, Compared, FullNames, Language, compare_judged};
 use sl_stages::{CheckedBook, Returns};
@@ -214,51 +215,98 @@ impl<O: Outside, W: Sink, E: Sink> Terminal<O, W, E> {
         self.compare(books, methods, returns, names, manner)
     }
 
-    // Puts the rulebooks of some words side by side, also with the methods of other words.
-    #[tactic(auto, using(crate::proofs::Deliveries::ends_early))]
-    fn compare_given<'a>(
+    // Puts rulebooks that were read side by side, also with these methods, which some words name.
+    fn compare_books<'a>(
         &mut self,
-        returns: &'a str,
-        books: &[&'a str],
-        methods: &[&'a str],
+        books: Vec<NamedBook<'_>>,
+        methods: &[Method],
+        returns: &NamedReturns<'_>,
         writing: Writing<'a>,
     ) -> Result<Status, Failure<'a, O::Reason>>
-        ensures ends { Ends (λ ends _. IsComparing (O.bytes self.old.outside) returns.now (map (λ word. word.now) books.now) (map (λ word. word.now) methods.now)
+        requires judged { AreJudged (O.bytes self.now.outside returns.now.path.now) (election_verdict returns.now.read.verdict) }
+        requires books { All (λ b. IsVerdictOn (O.bytes self.now.outside) b.word.now (tree_verdict b.read.verdict)) books.items }
+        ensures ends { (words : List (List ℕ)) → length methods.now ≤ length words → Ends (λ ends _. IsComparing (O.bytes self.old.outside) returns.now.path.now (map (λ b. b.word.now) books.entry.items) words
             (option_map (λ path. path.now) writing.entry.names) ends) (W.contents self.old.out) (W.contents self.new.out) result }
         ensures quiet { IfOk result (λ _. self.old.is_quiet ≡ true → self.new.err ≡ self.old.err) }
         ensures done { IfOk result (λ ends. ends ≡ status.Done → OnlyWarns E.contents self.old self.new) }
-        ensures told { IfOk result (λ _. IsOfComparison (O.bytes self.old.outside) returns.now (map (λ word. word.now) books.now) (map (λ word. word.now) methods.now)
+        ensures told { (words : List (List ℕ)) → length methods.now ≤ length words → IfOk result (λ _. IsOfComparison (O.bytes self.old.outside) returns.now.path.now (map (λ b. b.word.now) books.entry.items) words
             (Says E.contents self.old self.new)) }
     {
-        let returns = self.returns_at(returns)?;
-        let books = self.books_at(books)?;
-        let methods = methods_of(self.alloc, methods)?;
-        self.compare_read(books, methods.as_slice(), &returns, writing)
+        self.compare_read(books, methods, returns, writing)
     }
 
-    // Puts the statutes of the library side by side, also with the methods of words.
-    #[tactic(auto, using(crate::proofs::Deliveries::ends_early))]
-    fn compare_statutes<'a>(
+    // Puts the rulebooks of some words side by side.
+    fn compare_given<'a>(
         &mut self,
-        returns: &'a str,
-        methods: &[&'a str],
+        books: &[&'a str],
+        methods: &[Method],
+        returns: &NamedReturns<'_>,
         writing: Writing<'a>,
     ) -> Result<Status, Failure<'a, O::Reason>>
-        ensures ends { Ends (λ ends _. IsComparing (O.bytes self.old.outside) returns.now library_words (map (λ word. word.now) methods.now)
+        requires judged { AreJudged (O.bytes self.now.outside returns.now.path.now) (election_verdict returns.now.read.verdict) }
+        ensures ends { (words : List (List ℕ)) → length methods.now ≤ length words → Ends (λ ends _. IsComparing (O.bytes self.old.outside) returns.now.path.now (map (λ word. word.now) books.now) words
             (option_map (λ path. path.now) writing.entry.names) ends) (W.contents self.old.out) (W.contents self.new.out) result }
         ensures quiet { IfOk result (λ _. self.old.is_quiet ≡ true → self.new.err ≡ self.old.err) }
         ensures done { IfOk result (λ ends. ends ≡ status.Done → OnlyWarns E.contents self.old self.new) }
-        ensures told { IfOk result (λ _. IsOfComparison (O.bytes self.old.outside) returns.now library_words (map (λ word. word.now) methods.now)
+        ensures told { (words : List (List ℕ)) → length methods.now ≤ length words → IfOk result (λ _. IsOfComparison (O.bytes self.old.outside) returns.now.path.now (map (λ word. word.now) books.now) words
             (Says E.contents self.old self.new)) }
     {
-        let returns = self.returns_at(returns)?;
-        let words = library_words(self.alloc)?;
-        let books = statutes_of(self.alloc, words.as_slice())?;
-        let methods = methods_of(self.alloc, methods)?;
-        self.compare_read(books, methods.as_slice(), &returns, writing)
+        match self.books_at(books) {
+            Ok(books) => self.compare_books(books, methods, returns, writing),
+            Err(failure) => Err(failure),
+        }
+    }
+
+    // Puts the statutes of the library side by side.
+    fn compare_statutes<'a>(
+        &mut self,
+        methods: &[Method],
+        returns: &NamedReturns<'_>,
+        writing: Writing<'a>,
+    ) -> Result<Status, Failure<'a, O::Reason>>
+        requires judged { AreJudged (O.bytes self.now.outside returns.now.path.now) (election_verdict returns.now.read.verdict) }
+        ensures ends { (words : List (List ℕ)) → length methods.now ≤ length words → Ends (λ ends _. IsComparing (O.bytes self.old.outside) returns.now.path.now library_words words
+            (option_map (λ path. path.now) writing.entry.names) ends) (W.contents self.old.out) (W.contents self.new.out) result }
+        ensures quiet { IfOk result (λ _. self.old.is_quiet ≡ true → self.new.err ≡ self.old.err) }
+        ensures done { IfOk result (λ ends. ends ≡ status.Done → OnlyWarns E.contents self.old self.new) }
+        ensures told { (words : List (List ℕ)) → length methods.now ≤ length words → IfOk result (λ _. IsOfComparison (O.bytes self.old.outside) returns.now.path.now library_words words
+            (Says E.contents self.old self.new)) }
+    {
+        let words = match library_words(self.alloc) {
+            Ok(words) => words,
+            Err(NoMemory) => return Err(Failure::Call(DeskError::NoMemory)),
+        };
+        match statutes_of(self.alloc, words.as_slice()) {
+            Ok(books) => self.compare_books(books, methods, returns, writing),
+            Err(NoMemory) => Err(Failure::Call(DeskError::NoMemory)),
+        }
+    }
+
+    // Puts the rulebooks of some words side by side, or the statutes of the library where there are none.
+    fn compare_words<'a>(
+        &mut self,
+        books: &[&'a str],
+        methods: &[Method],
+        returns: &NamedReturns<'_>,
+        writing: Writing<'a>,
+    ) -> Result<Status, Failure<'a, O::Reason>>
+        requires judged { AreJudged (O.bytes self.now.outside returns.now.path.now) (election_verdict returns.now.read.verdict) }
+        ensures ends { (words : List (List ℕ)) → length methods.now ≤ length words → Ends (λ ends _. IsComparing (O.bytes self.old.outside) returns.now.path.now (compared_words (map (λ word. word.now) books.now)) words
+            (option_map (λ path. path.now) writing.entry.names) ends) (W.contents self.old.out) (W.contents self.new.out) result }
+        ensures quiet { IfOk result (λ _. self.old.is_quiet ≡ true → self.new.err ≡ self.old.err) }
+        ensures done { IfOk result (λ ends. ends ≡ status.Done → OnlyWarns E.contents self.old self.new) }
+        ensures told { (words : List (List ℕ)) → length methods.now ≤ length words → IfOk result (λ _. IsOfComparison (O.bytes self.old.outside) returns.now.path.now (compared_words (map (λ word. word.now) books.now)) words
+            (Says E.contents self.old self.new)) }
+    {
+        if books.is_empty() {
+            self.compare_statutes(methods, returns, writing)
+        } else {
+            self.compare_given(books, methods, returns, writing)
+        }
     }
 
     /// Puts the rulebooks of some words side by side, or the statutes of the library where there are none, also with the methods of other words.
+    #[tactic(auto, using(crate::proofs::Deliveries::ends_early))]
     pub(crate) fn report_comparison<'a>(
         &mut self,
         returns: &'a str,
@@ -273,10 +321,14 @@ impl<O: Outside, W: Sink, E: Sink> Terminal<O, W, E> {
         ensures told { IfOk result (λ _. IsOfComparison (O.bytes self.old.outside) returns.now (compared_words (map (λ word. word.now) books.now))
             (map (λ word. word.now) methods.now) (Says E.contents self.old self.new)) }
     {
-        if books.is_empty() {
-            self.compare_statutes(returns, methods, writing)
-        } else {
-            self.compare_given(returns, books, methods, writing)
+        let methods = methods_of(self.alloc, methods)?;
+        match self.returns_at(returns) {
+            Ok(read) => {
+                let ended = self.compare_words(books, methods.as_slice(), &read, writing);
+                drop(read);
+                ended
+            }
+            Err(failure) => Err(failure),
         }
     }
 }

@@ -65,7 +65,7 @@ fn sums_of(
 
 impl<O: Outside, W: Sink, E: Sink> Terminal<O, W, E> {
     // A rulebook: of the library if the word begins with `@`, else of the file at that path.
-    fn book_at<'a>(&self, word: &'a str) -> Result<NamedBook<'a>, Failure<'a, O::Reason>>
+    pub(crate) fn book_at<'a>(&self, word: &'a str) -> Result<NamedBook<'a>, Failure<'a, O::Reason>>
         ensures book { IfOk result (λ b. (b.word.now ≡ word.now) × IsVerdictOn (O.bytes self.now.outside) word.now (tree_verdict b.read.verdict)) }
         ensures early { IfErr result IsEarly }
     {
@@ -97,6 +97,7 @@ impl<O: Outside, W: Sink, E: Sink> Terminal<O, W, E> {
         &self,
         path: &'a str,
     ) -> Result<NamedReturns<'a>, Failure<'a, O::Reason>>
+        ensures path { IfOk result (λ r. r.path.now ≡ path.now) }
         ensures returns { IfOk result (λ r. AreJudged (O.bytes self.now.outside path.now) (election_verdict r.read.verdict)) }
         ensures early { IfErr result IsEarly }
     {
@@ -266,8 +267,34 @@ impl<O: Outside, W: Sink, E: Sink> Terminal<O, W, E> {
         self.sum_up(None, returns, names, manner)
     }
 
+    // Adds up returns that were read, with a rulebook if one is given.
+    fn totals_on<'a>(
+        &mut self,
+        returns: &NamedReturns<'_>,
+        book: Option<&'a str>,
+        writing: Writing<'a>,
+    ) -> Result<Status, Failure<'a, O::Reason>>
+        requires judged { AreJudged (O.bytes self.now.outside returns.now.path.now) (election_verdict returns.now.read.verdict) }
+        ensures ends { Ends (λ ends _. IsSumming (O.bytes self.old.outside) returns.now.path.now (given_word (option_map (λ word. word.now) book.entry)) (option_map (λ path. path.now) writing.entry.names) ends)
+            (W.contents self.old.out) (W.contents self.new.out) result }
+        ensures silent { IfOk result (λ ends. IsSilent self.old.is_quiet ends → self.new.err ≡ self.old.err) }
+        ensures told { IfOk result (λ _. IsOfSums (O.bytes self.old.outside) returns.now.path.now (given_word (option_map (λ word. word.now) book.entry))
+            (Says E.contents self.old self.new)) }
+    {
+        match book {
+            Some(word) => match self.book_at(word) {
+                Ok(book) => {
+                    let ended = self.totals_by(&book, returns, writing);
+                    drop(book);
+                    ended
+                }
+                Err(failure) => Err(failure),
+            },
+            None => self.totals_alone(returns, writing),
+        }
+    }
+
     /// Adds up returns, with a rulebook if one is given.
-    #[tactic(auto, using(crate::proofs::Deliveries::ends_early))]
     pub(crate) fn report_totals<'a>(
         &mut self,
         returns: &'a str,
@@ -280,13 +307,13 @@ impl<O: Outside, W: Sink, E: Sink> Terminal<O, W, E> {
         ensures told { IfOk result (λ _. IsOfSums (O.bytes self.old.outside) returns.now (given_word (option_map (λ word. word.now) book.entry))
             (Says E.contents self.old self.new)) }
     {
-        let returns = self.returns_at(returns)?;
-        match book {
-            Some(word) => {
-                let book = self.book_at(word)?;
-                self.totals_by(&book, &returns, writing)
+        match self.returns_at(returns) {
+            Ok(read) => {
+                let ended = self.totals_on(&read, book, writing);
+                drop(read);
+                ended
             }
-            None => self.totals_alone(&returns, writing),
+            Err(failure) => Err(failure),
         }
     }
 }

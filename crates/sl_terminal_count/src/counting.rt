@@ -9,8 +9,8 @@ ghost use Rattle.sl_count_inputs.specs.Writing.{Delivers};
 use crate::inputs::{open, open_book};
 use crate::outside::Outside;
 use crate::words::Count;
-use sl_count_calls::show;
-use sl_count_inputs::{BookSource, DeskError, Input, Sink, Status};
+use sl_count_calls::{View, count, stage, steps};
+use sl_count_inputs::{BookSource, DeskError, Input, Sink, Source, Status};
 use std::alloc::Global;
 
 // The inputs of a count, the book opened first.
@@ -32,6 +32,24 @@ fn opened<'a, O: Outside>(
     }
 }
 
+// Counts by the call that shows the view.
+fn shown<B: Source, R: Source, W: Sink>(
+    view: View<'_>,
+    alloc: Global,
+    book: &mut BookSource<'_, B>,
+    returns: &mut R,
+    out: &mut W,
+) -> Result<Status, DeskError>
+    ensures delivers { Delivers (λ status text. ForKnown (book_input B.remaining book.old) (R.remaining returns.old) (λ input bytes.
+        IsShownOutput view.entry input bytes status text)) (W.contents out.old) (W.contents out.new) result }
+{
+    match view {
+        View::Seats => count(alloc, book, returns, out),
+        View::Steps => steps(alloc, book, returns, out),
+        View::Stage(name) => stage(alloc, book, returns, name, out),
+    }
+}
+
 /// Counts what is asked for, over the files at the paths that it names.
 ///
 /// # Errors
@@ -47,8 +65,5 @@ pub fn counted<O: Outside, W: Sink>(
         IsShownOutput count.entry.view input bytes status text)) (W.contents out.old) (W.contents out.new) result }
 {
     let (mut book, mut returns) = opened(outside, &count)?;
-    let shown = show(count.view, alloc, &mut book, &mut returns, out)?;
-    let status = shown.status;
-    drop(shown);
-    Ok(status)
+    shown(count.view, alloc, &mut book, &mut returns, out)
 }

@@ -3,6 +3,9 @@
 ghost use Rattle.std.specs.Prelude.{◌≡◌, IfOk, IfErr, IfSome};
 ghost use Rattle.sl_stages.specs.book.Books.{book_of};
 ghost use Rattle.sl_count_inputs.specs.Failures.{counts, counts_after, FailsInOne};
+ghost use Rattle.sl_code.specs.Listing.{listing_of};
+ghost use Rattle.sl_code.specs.Spelling.{spelling_of};
+ghost use Rattle.sl_code_instructions.specs.Proper.{IsProper};
 ghost use Rattle.sl_desk.specs.Compiling.{IsCodeOf, IsCompiling, IsCompilingOutput};
 ghost use Rattle.sl_count_inputs.specs.Judging.{tree_verdict};
 ghost use Rattle.sl_count_inputs.specs.Reading.{book_input, book_failures, ReadsBook};
@@ -10,6 +13,7 @@ ghost use Rattle.sl_count_inputs.specs.Writing.{DeliversBoth};
 
 use sl_check::CheckedBook;
 use sl_code::{listing, to_bytes};
+use sl_code_instructions::Code;
 use sl_compile::compile;
 use sl_count_calls::Answer;
 use sl_count_inputs::{
@@ -44,16 +48,24 @@ impl Compilation {
     }
 }
 
+// The bytes of a code, and its listing.
+fn spelled(alloc: Global, code: &Code) -> Result<Compilation, NoMemory>
+    ensures { IfOk result (λ c. (c.answer.status ≡ Status.Done) × IsProper code.now × (c.file.items ≡ spelling_of code.now) × (c.answer.text.items ≡ listing_of code.now)) }
+{
+    let _instrs = code.instrs();
+    let file = to_bytes(alloc, code)?;
+    let answer = Answer::done(listing(alloc, code)?);
+    Ok(Compilation { file, answer })
+}
+
 // The code of a good book: its bytes and its listing.
 fn compiled(alloc: Global, book: &CheckedBook) -> Result<Compilation, NoMemory>
     ensures { IfOk result (λ c. (c.answer.status ≡ Status.Done) × IsCodeOf (book_of book.now.book) c.file.items c.answer.text.items) }
 {
     let code = compile(alloc, book)?;
-    let code = code.code();
-    let _instrs = code.instrs();
-    let file = to_bytes(alloc, code)?;
-    let answer = Answer::done(listing(alloc, code)?);
-    Ok(Compilation { file, answer })
+    let compilation = spelled(alloc, code.code());
+    drop(code);
+    compilation
 }
 
 /// What compiling writes of a judged book: its code, or the line that refuses it.

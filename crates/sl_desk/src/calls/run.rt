@@ -175,7 +175,11 @@ pub fn run_code<C: Source, R: Source, W: Sink>(
     ensures returns { ReadsBehindCode R.remaining (C.remaining code.old) returns.old returns.new result }
 {
     match judge_run(alloc, code, returns) {
-        Ok(read) => written(alloc, &read.judged, out),
+        Ok(read) => {
+            let ended = written(alloc, &read.judged, out);
+            drop(read);
+            ended
+        }
         Err(error) => Err(error),
     }
 }

@@ -1,10 +1,12 @@
-use Rattle.std.proofs.Common.{◌≡◌, ◌∙◌, List, map, ap, arith}
+use Rattle.std.proofs.Common.{◌≡◌, ◌∙◌, List, map, sym, ap, arith}
+use Rattle.std.proofs.lemmas.List.{length-take-le}
 use Rattle.sl_stages.specs.declared.book.Stage.{Stage}
 use Rattle.sl_stages.specs.book.Books.{book_of}
 use Rattle.sl_stages.specs.book.Trees.{stage_of}
 use Rattle.sl_blocks.specs.inner.Few.{few_of}
 use Rattle.sl_compile.specs.Codes.{code_stages, book_code}
 use Rattle.sl_compile.specs.Laws.{CanCompile}
+use Rattle.sl_compile.proofs.Walks.{few_stages}
 use Rattle.sl_compile.proofs.Wholes.{passes}
 use Rattle.sl_compile.proofs.Books.{book_can, code_is, code_proper}
 use Rattle.sl_compile.proofs.compiler.code_of.Goals.{In_ok-stages}
@@ -35,3 +37,14 @@ pub returns : goal.returns
 returns c =
     let here = (goal.at.returns c).In_ok-stages in
     record { few = few_of c.easiest-few.result; same = (can here).same; instrs = c.lay_book.new.code.items; are = here.in_ok-types.ensures.blocks; is = c.new.ensures ∙ is here }
+
+pub slice_bounds-types-end : goal.slice_bounds-types-end
+slice_bounds-types-end c = omega (arith, few_stages c.args.book.now.stages.items c.args.book.now.within_limits, c.len.ensures, c.args.book.now.stages.ok.0)
+
+pub slice_bounds-add_columns-end : goal.slice_bounds-add_columns-end
+slice_bounds-add_columns-end c =
+    let few = few_stages c.args.book.now.stages.items c.args.book.now.within_limits in
+    sym (length-take-le c.len.result c.in_ok-types.types (omega (arith, few, c.len.ensures, c.args.book.now.stages.ok.0)))
+
+pub code_stages-requires : goal.code_stages-requires
+code_stages-requires c = rw c.deref-3.ensures.value (few_stages c.args.book.now.stages.items c.args.book.now.within_limits)

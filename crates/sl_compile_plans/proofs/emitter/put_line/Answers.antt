@@ -1,4 +1,5 @@
 use Rattle.std.proofs.Common.{arith}
+use Rattle.std.proofs.lemmas.List.{take_all}
 use Rattle.sl_compile_plans.specs.inner.Layout.{filled}
 use Rattle.sl_compile_plans.proofs.Laying.{known_step, line_more}
 use Rattle.sl_compile_plans.proofs.emitter.put_line.Goals as goal
@@ -15,3 +16,9 @@ loop-part-preserved c =
       len = omega (arith, before.len, c.push.ensures.len);
       capacity = omega (arith, before.capacity, c.push.ensures.capacity);
     }
+
+pub returns-clause-after : goal.returns-clause-after
+returns-clause-after c = rw (← take_all c.loop-part.part-index c.args.parts.now c.loop-part-test.false) c.loop-part.invariant.known
+
+pub returns-clause-items : goal.returns-clause-items
+returns-clause-items c = rw (← take_all c.loop-part.part-index c.args.parts.now c.loop-part-test.false) c.loop-part.invariant.items

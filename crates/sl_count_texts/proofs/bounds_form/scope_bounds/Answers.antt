@@ -1,4 +1,5 @@
 use Rattle.std.proofs.Common.{◌<◌, ◌≤◌, map, sum, option_map, inl, sym, subst, ◌∙◌}
+use Rattle.std.proofs.lemmas.List.{length-map}
 use Rattle.sl_ratio.specs.declared.limits.TheConstants.{MAX_SEATS}
 use Rattle.sl_ratio.specs.Bounds.{AreBounds}
 use Rattle.sl_count_texts.specs.inner.Counts.{counted_seats, IsWithin}
@@ -29,3 +30,8 @@ returns c =
       subst (λ v. AreBounds method v seats c.bounds.result) (c.deref-2.ensures.value ∙ c.in_ok-weights.ensures)
           (subst (λ s. AreBounds method c.deref-2.result.now s c.bounds.result) (c.deref-3.ensures.value ∙ within.0) c.bounds.ensures),
     )
+
+pub bounds-requires-clause-same_length : goal.bounds-requires-clause-same_length
+bounds-requires-clause-same_length c =
+    let within = subst (λ o. IsWithin (λ s. s ≤ MAX_SEATS) (map (λ w. counted_seats c.args.counts.now w.now) c.args.scope.now) (option_map (λ s. s.items) o)) c.in-Some.is c.in_ok-seats.ensures in
+    rw (c.deref-3.ensures.value, within.0, c.deref-2.ensures.value, c.in_ok-weights.ensures) (simp length-map)

@@ -49,3 +49,13 @@ returns-clause-room c k d within =
     let size = c.loop-list.invariant.sums.size in
     let below = c.loop-list.invariant.below k (omega (arith, size, within)) in
     omega (arith, get_or_default_zero c.loop-list.column.items k d within, below)
+
+pub overflow_add-index_mut : goal.overflow_add-index_mut
+overflow_add-index_mut c =
+    let lists = c.args.lists.now in
+    let i = c.loop-list.list-index in
+    let x = get_or lists i (record { land = 0; party = 0; seats = 0; direct = 0; vacant = 0 }) in
+    let in_column = c.requires i (record { land = 0; party = 0; seats = 0; direct = 0; vacant = 0 }) c.loop-list-test.true in
+    let read = read_sum (λ party x. cond (is_list_of party x) x.seats 0) lists c.args.parties i c.loop-list.column.items c.loop-list.invariant.sums x.party c.index_mut.result.now in_column c.index_mut.ensures.value in
+    let most = c.loop-list.invariant.below x.party in_column in
+    omega arith

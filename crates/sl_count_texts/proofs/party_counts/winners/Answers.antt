@@ -42,3 +42,8 @@ returns c =
     let past : length (zip e.wins places) ≤ c.loop-win.win = omega (arith, length-zip e.wins places, c.loop-win-test.false) in
     counts_all (counts_for c.args.counted) (zip e.wins places) (parties_of e) c.loop-win.win c.loop-win.column.items past c.loop-win.invariant
     ∙ ap (λ ps. map (λ k. count_by (counts_for c.args.counted k) (zip e.wins ps)) (range_with_len 0 (parties_of e))) c.placed-place-items.ensures
+
+pub index_mut-requires : goal.index_mut-requires
+index_mut-requires c =
+    let of = party_within c.args.returns.now c.parties.ensures.kept c.loop-win.win c.win.result c.win.ensures c.in-Some.party (of_counted c.args.counted c.win.result _ c.in-Some.party (sym c.in-Some.is ∙ c.party.ensures)) in
+    omega (arith, of, c.loop-win.invariant.size, c.loop-win.column.ok.0)

@@ -34,6 +34,16 @@ steps-requires-clause-records g c = subst (λ (s : State). state_by g.R.Recordin
 halted : (c : CountingCode) (e : Election) (s : State) (base : ℕ) (vacant : Option ℕ) (x : End) (o : Option End) → o ≡ Some x → x ≡ end.Halted base vacant → FitsWith c e o s → FitsHalt c e base vacant s
 halted c e s base vacant x o some is fits = subst (λ (y : End). FitsWith c e (Some y) s) is (subst (λ (p : Option End). FitsWith c e p s) some fits)
 
+pub new-requires-clause-base : goal.new-requires-clause-base
+new-requires-clause-base g c =
+    let code = c.code-code.result.now in
+    let e = c.args.returns.now in
+    let h = c.in-Some-Halted in
+    let fits = halted code e (state_of c.steps.new.store) h.base h.vacant h.field-0 c.in_ok-end.end h.is h.field-0-is c.in_ok-end.ensures.fits in
+    let below = slice_get_within code.slots h.base shape.List fits.base in
+    let columns = ap (λ (z : Sizes). length z.columns) c.in_ok-end.ensures.kept ∙ length-map code.slots _ in
+    omega (arith, columns, below)
+
 pub new-requires-clause-vacant : goal.new-requires-clause-vacant
 new-requires-clause-vacant g c = λ slot named.
     let code = c.code-code.result.now in

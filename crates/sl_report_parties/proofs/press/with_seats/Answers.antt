@@ -1,4 +1,4 @@
-use Rattle.std.proofs.Common.{Option, ap, option_map, ℕ, ◌∙◌}
+use Rattle.std.proofs.Common.{Option, ap, option_map, ℕ, ◌∙◌, filter, map, arith}
 use Rattle.sl_report_parties.specs.Press.{is_pressed, pressed_of}
 use Rattle.sl_report_parties.specs.Seats.{party_seats}
 use Rattle.sl_report_parties.specs.Parts.{part_of}
@@ -6,6 +6,7 @@ use Rattle.sl_report_parties.specs.declared.parts.PartyPart.{PartyPart}
 use Rattle.sl_report_parties.specs.declared.press.Pressed.{Pressed}
 use Rattle.sl_report_parties.specs.declared.seats.Seats.{Seats}
 use Rattle.sl_report_parties.proofs.PressSteps.{kept_number}
+use Rattle.sl_report_parties.proofs.Steps.{at_last}
 use Rattle.sl_report_parties.proofs.press.with_seats.Goals as goal
 
 pub loop-party-preserved : goal.loop-party-preserved
@@ -20,3 +21,6 @@ loop-party-preserved c =
     (ap (λ s. with_all s c.part.result c.before_of.result) c.seats_of.ensures
     ∙ ap (λ p. with_all (party_seats c.args.table.now e n) p c.before_of.result) c.part.ensures
     ∙ ap (λ b. with_all (party_seats c.args.table.now e n) (part_of conditions e n) b) c.before_of.ensures)
+
+pub returns : goal.returns
+returns c = at_last (λ parties. filter is_pressed (map (pressed_of c.args.setting.now.book.now.eligible.items c.args.table.now c.args.setting.now.returns.now (option_map (λ all. all.now) c.args.earlier)) parties)) c.loop-party.party _ _ (omega (arith, c.parties-party-end.ensures.number)) c.loop-party.invariant

@@ -1,3 +1,7 @@
+use Rattle.std.proofs.Common.{filter, filter_map}
+use Rattle.std.specs.Str.{bytes_eq}
+use Rattle.sl_stages.specs.meaning.Lots.{given_entry, lot_among}
+use Rattle.sl_report_parties.proofs.Steps.{at_end}
 use Rattle.std.proofs.Common.{◌≡◌, Some, sym, ap, subst, ◌∙◌}
 use Rattle.std.specs.Prelude.{slice_get}
 use Rattle.std.proofs.lemmas.Option.{slice_get-get_or}
@@ -21,3 +25,8 @@ loop-lot-preserved c =
           ap (λ v. v.items) w.numbers-is
           ∙ none_more c.args.name.now c.args.votes c.args.items.now c.args.returns.now.lots k lot c.loop-lot.numbers.items there c.loop-lot.invariant (sym c.drawn_by.ensures ∙ w.in_default.is)
     ]
+
+pub returns : goal.returns
+returns c =
+    at_end (λ lots. lot_among c.args.items.now (filter_map (given_entry c.args.votes) (filter (λ x. bytes_eq c.args.name.now x.stage) lots))) c.args.returns.now.lots c.loop-lot.lot-index _
+    (rw (← c.lots-lot-items.ensures.lots) c.loop-lot-test.false) c.loop-lot.invariant

@@ -1,6 +1,10 @@
-use Rattle.sl_report_warnings.proofs.Pieces.{pieces_behind}
+use Rattle.std.proofs.Common.{arith}
+use Rattle.sl_report_warnings.proofs.Pieces.{pieces_behind, pieces_end}
 use Rattle.sl_report_warnings.proofs.returns.warn_of_lands.Goals as goal
 use Rattle.sl_report_warnings.specs.Warnings.{of_land}
 
 pub loop-land-preserved : goal.loop-land-preserved
 loop-land-preserved c = pieces_behind (of_land c.args.returns.now) c.loop-land.land _ _ _ c.loop-land.invariant c.in_ok-warn_of_land.ensures
+
+pub returns : goal.returns
+returns c = pieces_end (of_land c.args.returns.now) c.loop-land.land _ _ _ (omega (arith, c.lands-land-end.ensures.number)) c.loop-land.invariant

@@ -1,5 +1,6 @@
 -- The test that fails is the first.
-use Rattle.std.proofs.Common.{◌≡◌, refl, ◌∙◌}
+use Rattle.std.proofs.Common.{◌≡◌, refl, sym, ◌∙◌}
+use Rattle.std.proofs.lemmas.Bool.{leb-true, not-true}
 use Rattle.std.proofs.lemmas.Result.{on_ok_weaker}
 use Rattle.csv.specs.Records.{fields_of}
 use Rattle.sl_stages.specs.returns.Election.{with_list}
@@ -110,3 +111,21 @@ returns-clause-joined c =
     rw (land_place, party_place, c.in_ok-valid.ensures.passed.1, c.in_ok-counted.ensures.passed.1, c.in_ok-slate.ensures.number, c.cell.ensures, c.cell-2.ensures, c.cell-3.ensures) (refl {a = with_list_of e (fields_of c.args.fields.now)}) in
     let passed : Pass (list_tests c.args.version e (fields_of c.args.fields.now)) = both blank (both (both land (both party (both valid (both counted (both slate nothing))))) (both within new)) in
     on_ok_weaker c.keep_list.result (λ same. (passed, same ∙ joined)) c.keep_list.ensures.kept
+
+pub is_list-requires : goal.is_list-requires
+is_list-requires c = record {
+  land = rw c.requires.index at c.in_ok-land.ensures.within;
+  party = rw c.requires.index at c.in_ok-party.ensures.within;
+}
+
+pub keep_list-requires : goal.keep_list-requires
+keep_list-requires c = record {
+  land = rw c.requires.index at c.in_ok-land.ensures.within;
+  party = rw c.requires.index at c.in_ok-party.ensures.within;
+  new = sym c.is_list.ensures ∙ not-true _ c.in_ok-ensure-2.ensures.held;
+  votes = record {
+    counted = leb-true _ _ c.in_ok-ensure.ensures.held;
+    valid = c.in_ok-valid.ensures.passed.3;
+    slate = c.in_ok-slate.ensures.within;
+  };
+}

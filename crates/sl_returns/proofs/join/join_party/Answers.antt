@@ -3,7 +3,7 @@ use Rattle.std.proofs.Common.{◌<◌, length}
 use Rattle.std.proofs.lemmas.Bool.{ltb-true}
 use Rattle.sl_ratio.specs.declared.limits.TheConstants.{MAX_PARTIES}
 use Rattle.sl_returns.proofs.NameTests.{may_join}
-use Rattle.sl_returns.proofs.TestLemmas.{after, both, here, nothing, exit, wanting}
+use Rattle.sl_returns.proofs.TestLemmas.{after, both, here, nothing, exit, left_wanting, wanting}
 use Rattle.sl_returns.proofs.join.join_party.Goals as goal
 
 pub returns-in_err-blanks-clause-refused : goal.returns-in_err-blanks-clause-refused
@@ -31,6 +31,14 @@ returns-in_err-ensure-clause-refused c =
     let flag = rw c.cell.ensures at c.in_ok-minority.ensures.passed.0 in
     let room = rw c.parties.ensures.number at c.in_err-ensure.ensures.failed in
     exit c.from_residual-in_err-ensure.result c.from_residual-in_err-ensure.ensures.1 (after blank (after (both name (both flag nothing)) room))
+
+pub returns-in_err-kept-clause-refused : goal.returns-in_err-kept-clause-refused
+returns-in_err-kept-clause-refused c =
+    let blank = c.in_ok-blanks.ensures.passed in
+    let name = rw (c.find.ensures.number, c.requires.index, c.cell-name.ensures) at c.in_ok-new_name.ensures.passed in
+    let flag = rw c.cell.ensures at c.in_ok-minority.ensures.passed.0 in
+    let room = rw c.parties.ensures.number at c.in_ok-ensure.ensures.passed in
+    left_wanting c.from_residual-in_err-kept.result c.from_residual-in_err-kept.ensures.1 (both blank (both (both name (both flag nothing)) room)) c.in_err-kept.ensures.err
 
 pub returns-clause-refused : goal.returns-clause-refused
 returns-clause-refused c =

@@ -1,10 +1,11 @@
 -- The instructions whose methods see less than the whole code and the returns.
 use Rattle.std.proofs.Common.{sym, ◌∙◌}
+use Rattle.sl_stages.specs.declared.table.Mark.TheVariants as mark
 use Rattle.sl_code_semantics.specs.Effects.{stage_of}
 use Rattle.sl_code_semantics.specs.Places.{scope_at, index_at, item_of}
 use Rattle.sl_code_steps.specs.inner.Stores.{state_of}
 use Rattle.sl_code_steps.proofs.drawing.Drawing.{entry_there}
-use Rattle.sl_code_steps.proofs.Dropping.{weighed}
+use Rattle.sl_code_steps.proofs.Dropping.{recorded, weighed}
 use Rattle.sl_code_steps.proofs.store.Store.step.Goals as goal
 
 pub weigh-requires-clause-entry : goal.weigh-requires-clause-entry
@@ -41,3 +42,21 @@ returns-in-Dropped-records-2-clause-follows g c =
     let dropped = sym c.records-in-Weigh.ensures ∙ c.in-Dropped-records-2.is in
     let case = rw w.is at c.requires.step.case in
     rw (w.is, dropped) (weighed c.args.code.now e s (rw dropped at c.requires.records) w.stage w.scope w.rounding (s.registers w.weight) case)
+
+pub returns-in-Dropped-clause-follows : goal.returns-in-Dropped-clause-follows
+returns-in-Dropped-clause-follows g c =
+    let e = c.args.returns.now in
+    let s = state_of c.args.self.now in
+    let w = c.in-Emit in
+    let dropped = sym c.records.ensures ∙ c.in-Dropped.is in
+    let case = rw w.is at c.requires.step.case in
+    rw (w.is, dropped) (recorded c.args.code.now e s (rw dropped at c.requires.records) w.stage w.scope (s.registers w.number) (s.registers w.step) s.mark case)
+
+pub returns-in-Dropped-records-clause-follows : goal.returns-in-Dropped-records-clause-follows
+returns-in-Dropped-records-clause-follows g c =
+    let e = c.args.returns.now in
+    let s = state_of c.args.self.now in
+    let w = c.in-Given in
+    let dropped = sym c.records-in-Given.ensures ∙ c.in-Dropped-records.is in
+    let case = rw w.is at c.requires.step.case in
+    rw (w.is, dropped) (recorded c.args.code.now e s (rw dropped at c.requires.records) w.stage w.scope (s.registers w.number) 0 mark.Given case)

@@ -1,6 +1,6 @@
 -- One more of the code's instructions.
-use Rattle.std.proofs.Common.{◌≡◌, ◌<◌, ◌+◌, ℕ, suc, List, [], ◌∷◌, ◌++◌, length, get_or, take, sym, ap, ◌∙◌, arith}
-use Rattle.std.proofs.lemmas.List.{length-append}
+use Rattle.std.proofs.Common.{◌≡◌, ◌<◌, ◌≤◌, ◌+◌, ℕ, suc, List, [], ◌∷◌, ◌++◌, length, get_or, take, sym, ap, ◌∙◌, arith}
+use Rattle.std.proofs.lemmas.List.{length-append, take_all}
 use Rattle.sl_code_instructions.specs.declared.instr.Instr.{Instr}
 use Rattle.sl_code_instructions.specs.declared.instr.Instr.TheVariants.{Set}
 use Rattle.sl_machine.specs.declared.way.Standing.{Standing}
@@ -30,4 +30,18 @@ loop-place-preserved g c =
       counted = omega (arith, ap length added, length-append old (number ∷ []), inv.counted);
       before = λ p within. ap (λ (xs : List ℕ). get_or xs p 0) added
           ∙ numbers_on (standing_before k code) old number (λ q less. inv.before q (omega (arith, less, inv.counted))) stand p (omega (arith, within, inv.counted));
+    }
+
+pub returns : goal.returns
+returns g c =
+    let k = g.R.Recording.records in
+    let instrs = c.instrs-instrs.result.now in
+    let seen : instrs ≡ c.args.code.now.instrs = c.instrs-instrs.ensures.instrs in
+    let past : length instrs ≤ c.loop-place.place = c.loop-place-test.false in
+    let inv = c.loop-place.invariant in
+    let long = ap (λ (is : List Instr). length is) seen in
+    record {
+      standing = inv.standing ∙ ap (standing_from k 0) (take_all c.loop-place.place instrs past ∙ seen);
+      counted = omega (arith, inv.counted, long, past, c.loop-place.auto.place-end);
+      before = λ p within. inv.before p (omega (arith, within, long, past));
     }

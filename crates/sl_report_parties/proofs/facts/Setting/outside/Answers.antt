@@ -1,7 +1,7 @@
-use Rattle.std.proofs.Common.{arith}
+use Rattle.std.proofs.Common.{arith, count_by}
 use Rattle.sl_stages.specs.returns.Election.{IsWin, lands_of, parties_of}
 use Rattle.sl_report_parties.specs.Cells.{is_outside}
-use Rattle.sl_report_parties.proofs.Steps.{all_at, count_next, one_if_le}
+use Rattle.sl_report_parties.proofs.Steps.{all_at, count_next, one_if_le, at_end}
 use Rattle.sl_report_parties.proofs.facts.Setting.outside.Goals as goal
 
 pub loop-number-preserved : goal.loop-number-preserved
@@ -17,3 +17,6 @@ pub is_outside-requires : goal.is_outside-requires
 is_outside-requires c =
     let e = c.args.self.now.returns.now in
     all_at (IsWin (lands_of e) (parties_of e)) e.wins c.loop-number.number c.win.result c.wins-number-end.ensures.kept.places c.win.ensures
+
+pub returns : goal.returns
+returns c = at_end (count_by (is_outside c.args.self.now.book.now.eligible.items c.args.self.now.returns.now c.args.land)) c.args.self.now.returns.now.wins c.loop-number.number _ (omega (arith, c.wins-number-end.ensures.number)) c.loop-number.invariant.winners

@@ -1,51 +1,37 @@
-use Rattle.std.proofs.Common.{Bor, IfOk, List, map, option_map, subst, sym, ◌∙◌, ℕ}
+use Rattle.std.proofs.Common.{Bor, IfOk, List, arith, length, map, option_map, subst, ◌≤◌, ℕ}
+use Rattle.std.proofs.lemmas.List.{length-map}
 use Rattle.sl_count_inputs.specs.declared.status.Status.{Status}
-use Rattle.sl_terminal_commands.proofs.LibraryWords.{none_given, some_given}
 use Rattle.sl_terminal_commands.proofs.terminal.Terminal.report_comparison.Goals as goal
 use Rattle.sl_terminal_commands.specs.Ends.{Ends}
 use Rattle.sl_terminal_commands.specs.Said.{Says}
-use Rattle.sl_terminal_commands.specs.Sums.{IsComparing, IsOfComparison}
+use Rattle.sl_terminal_commands.specs.Sums.{IsComparing, IsOfComparison, compared_words}
 
-pub returns-then-is_empty-clause-ends : goal.returns-then-is_empty-clause-ends
-returns-then-is_empty-clause-ends g c =
+pub compare_words-ended-requires : goal.compare_words-ended-requires
+compare_words-ended-requires g c = record { judged = rw c.in-Ok.ensures.path c.in-Ok.ensures.returns }
+
+pub returns-in-Ok-clause-ends : goal.returns-in-Ok-clause-ends
+returns-in-Ok-clause-ends g c =
     let bytes = g.O.Outside.bytes c.args.self.now.outside in
+    let books = compared_words (map (λ (word : Bor (List ℕ)). word.now) c.args.books.now) in
     let names = option_map (λ (path : Bor (List ℕ)). path.now) c.args.writing.names in
-    let methods = map (λ (word : Bor (List ℕ)). word.now) c.args.methods.now in
-    let none = none_given c.args.books.now (sym c.is_empty.ensures ∙ c.if-is_empty.true) in
+    let words = map (λ (word : Bor (List ℕ)). word.now) c.args.methods.now in
+    let few : length c.in_ok-methods.methods.items ≤ length words = omega (arith, c.in_ok-methods.ensures, length-map c.args.methods.now (λ (word : Bor (List ℕ)). word.now)) in
+    let given : length c.as_slice.result.now ≤ length words = rw c.as_slice.ensures.value few in
     subst
     (
-    λ words.
-    Ends (λ ends text. IsComparing bytes c.args.returns.now words methods names ends) (g.W.Sink.contents c.args.self.now.out)
-    (g.W.Sink.contents c.compare_statutes.new.self.out) c.compare_statutes.result
+    λ path.
+    Ends (λ ends text. IsComparing bytes path books words names ends) (g.W.Sink.contents c.args.self.now.out) (g.W.Sink.contents c.compare_words-ended.new.self.out)
+    c.compare_words-ended.result
     )
-    none c.compare_statutes.ensures.ends
+    c.in-Ok.ensures.path (c.compare_words-ended.ensures.ends words given)
 
-pub returns-then-is_empty-clause-told : goal.returns-then-is_empty-clause-told
-returns-then-is_empty-clause-told g c =
+pub returns-in-Ok-clause-told : goal.returns-in-Ok-clause-told
+returns-in-Ok-clause-told g c =
     let bytes = g.O.Outside.bytes c.args.self.now.outside in
-    let says = Says g.E.Sink.contents c.args.self.now c.compare_statutes.new.self in
-    let methods = map (λ (word : Bor (List ℕ)). word.now) c.args.methods.now in
-    let none = none_given c.args.books.now (sym c.is_empty.ensures ∙ c.if-is_empty.true) in
-    subst (λ words. IfOk c.compare_statutes.result (λ (ends : Status). IsOfComparison bytes c.args.returns.now words methods says)) none c.compare_statutes.ensures.told
-
-pub returns-else-is_empty-clause-ends : goal.returns-else-is_empty-clause-ends
-returns-else-is_empty-clause-ends g c =
-    let bytes = g.O.Outside.bytes c.args.self.now.outside in
-    let names = option_map (λ (path : Bor (List ℕ)). path.now) c.args.writing.names in
-    let methods = map (λ (word : Bor (List ℕ)). word.now) c.args.methods.now in
-    let some = some_given c.args.books.now (sym c.is_empty.ensures ∙ c.if-is_empty.false) in
-    subst
-    (
-    λ words.
-    Ends (λ ends text. IsComparing bytes c.args.returns.now words methods names ends) (g.W.Sink.contents c.args.self.now.out)
-    (g.W.Sink.contents c.compare_given.new.self.out) c.compare_given.result
-    )
-    some c.compare_given.ensures.ends
-
-pub returns-else-is_empty-clause-told : goal.returns-else-is_empty-clause-told
-returns-else-is_empty-clause-told g c =
-    let bytes = g.O.Outside.bytes c.args.self.now.outside in
-    let says = Says g.E.Sink.contents c.args.self.now c.compare_given.new.self in
-    let methods = map (λ (word : Bor (List ℕ)). word.now) c.args.methods.now in
-    let some = some_given c.args.books.now (sym c.is_empty.ensures ∙ c.if-is_empty.false) in
-    subst (λ words. IfOk c.compare_given.result (λ (ends : Status). IsOfComparison bytes c.args.returns.now words methods says)) some c.compare_given.ensures.told
+    let books = compared_words (map (λ (word : Bor (List ℕ)). word.now) c.args.books.now) in
+    let says = Says g.E.Sink.contents c.args.self.now c.compare_words-ended.new.self in
+    let words = map (λ (word : Bor (List ℕ)). word.now) c.args.methods.now in
+    let few : length c.in_ok-methods.methods.items ≤ length words = omega (arith, c.in_ok-methods.ensures, length-map c.args.methods.now (λ (word : Bor (List ℕ)). word.now)) in
+    let given : length c.as_slice.result.now ≤ length words = rw c.as_slice.ensures.value few in
+    subst (λ path. IfOk c.compare_words-ended.result (λ (ends : Status). IsOfComparison bytes path books words says)) c.in-Ok.ensures.path
+    (c.compare_words-ended.ensures.told words given)

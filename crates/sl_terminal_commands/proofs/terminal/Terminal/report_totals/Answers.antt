@@ -1,67 +1,10 @@
-use Rattle.std.specs.Option.{option_map}
-use Rattle.std.proofs.Common.{Bor, IfOk, List, [], subst, sym, ◌∷◌, ℕ}
-use Rattle.sl_count_inputs.specs.declared.status.Status.{Status}
-use Rattle.sl_terminal_commands.proofs.Deliveries.{ends_wider}
-use Rattle.sl_terminal_commands.proofs.Summaries.{of_both, of_election, summed_alone, summed_by}
-use Rattle.sl_terminal_commands.proofs.Tellings.{ok_wider}
 use Rattle.sl_terminal_commands.proofs.terminal.Terminal.report_totals.Goals as goal
-use Rattle.sl_terminal_commands.specs.Ends.{Ends}
-use Rattle.sl_terminal_commands.specs.Sums.{IsOfSums, IsSumming, given_word}
-use Rattle.sl_terminal_commands.specs.Said.{Says}
-use Rattle.sl_terminal_commands.specs.inner.Verdicts.{EndsWith, IsEndBy, IsEndOn, IsOfBoth, IsOfElection}
 
-pub returns-in-Some-clause-ends : goal.returns-in-Some-clause-ends
-returns-in-Some-clause-ends g c =
-    let bytes = g.O.Outside.bytes c.args.self.now.outside in
-    let path = c.args.returns.now in
-    let returns = c.in_ok-returns.returns.read.verdict in
-    let book = c.in_ok-book-in-Some.book.read.verdict in
-    let word = c.in-Some.word.now in
-    let names = option_map (λ (path : Bor (List ℕ)). path.now) c.args.writing.names in
-    let old = g.W.Sink.contents c.args.self.now.out in
-    let new = g.W.Sink.contents c.totals_by.new.self.out in
-    let ends =
-    ends_wider (λ ends text. EndsWith bytes names (λ is. IsEndBy is book returns ends)) (λ ends text. IsSumming bytes path (word ∷ []) names ends) old new c.totals_by.result
-    (λ ends text is. summed_by bytes path returns c.in_ok-returns.ensures.returns names is.0 is.1 word book c.in_ok-book-in-Some.ensures.book.1 ends is.2) c.totals_by.ensures.ends in
-    subst (λ given. Ends (λ ends text. IsSumming bytes path (given_word (option_map (λ (word : Bor (List ℕ)). word.now) given)) names ends) old new c.totals_by.result)
-    (sym c.in-Some.is) ends
+pub totals_on-ended-requires : goal.totals_on-ended-requires
+totals_on-ended-requires g c = record { judged = rw c.in-Ok.ensures.path c.in-Ok.ensures.returns }
 
-pub returns-in-Some-clause-told : goal.returns-in-Some-clause-told
-returns-in-Some-clause-told g c =
-    let bytes = g.O.Outside.bytes c.args.self.now.outside in
-    let path = c.args.returns.now in
-    let returns = c.in_ok-returns.returns.read.verdict in
-    let book = c.in_ok-book-in-Some.book.read.verdict in
-    let word = c.in-Some.word.now in
-    let says = Says g.E.Sink.contents c.args.self.now c.totals_by.new.self in
-    let told =
-    ok_wider (λ (ends : Status). IsOfBoth book returns says) (λ (ends : Status). IsOfSums bytes path (word ∷ []) says) c.totals_by.result
-    (λ ends of. of_both bytes path returns c.in_ok-returns.ensures.returns says word book c.in_ok-book-in-Some.ensures.book.1 of) c.totals_by.ensures.told in
-    subst (λ given. IfOk c.totals_by.result (λ ends. IsOfSums bytes path (given_word (option_map (λ (word : Bor (List ℕ)). word.now) given)) says))
-    (sym c.in-Some.is) told
+pub returns-in-Ok-clause-ends : goal.returns-in-Ok-clause-ends
+returns-in-Ok-clause-ends g c = rw c.in-Ok.ensures.path at c.totals_on-ended.ensures.ends
 
-pub returns-clause-told : goal.returns-clause-told
-returns-clause-told g c =
-    let bytes = g.O.Outside.bytes c.args.self.now.outside in
-    let path = c.args.returns.now in
-    let returns = c.in_ok-returns.returns.read.verdict in
-    let says = Says g.E.Sink.contents c.args.self.now c.totals_alone.new.self in
-    let told =
-    ok_wider (λ (ends : Status). IsOfElection returns says) (λ (ends : Status). IsOfSums bytes path [] says) c.totals_alone.result
-    (λ ends of. of_election bytes path returns c.in_ok-returns.ensures.returns says of) c.totals_alone.ensures.told in
-    subst (λ given. IfOk c.totals_alone.result (λ ends. IsOfSums bytes path (given_word (option_map (λ (word : Bor (List ℕ)). word.now) given)) says))
-    (sym c.in-None.is) told
-
-pub returns-clause-ends : goal.returns-clause-ends
-returns-clause-ends g c =
-    let bytes = g.O.Outside.bytes c.args.self.now.outside in
-    let path = c.args.returns.now in
-    let returns = c.in_ok-returns.returns.read.verdict in
-    let names = option_map (λ (path : Bor (List ℕ)). path.now) c.args.writing.names in
-    let old = g.W.Sink.contents c.args.self.now.out in
-    let new = g.W.Sink.contents c.totals_alone.new.self.out in
-    let ends =
-    ends_wider (λ ends text. EndsWith bytes names (λ is. IsEndOn is returns ends)) (λ ends text. IsSumming bytes path [] names ends) old new c.totals_alone.result
-    (λ ends text is. summed_alone bytes path returns c.in_ok-returns.ensures.returns names is.0 is.1 ends is.2) c.totals_alone.ensures.ends in
-    subst (λ given. Ends (λ ends text. IsSumming bytes path (given_word (option_map (λ (word : Bor (List ℕ)). word.now) given)) names ends) old new c.totals_alone.result)
-    (sym c.in-None.is) ends
+pub returns-in-Ok-clause-told : goal.returns-in-Ok-clause-told
+returns-in-Ok-clause-told g c = rw c.in-Ok.ensures.path at c.totals_on-ended.ensures.told

@@ -1,23 +1,30 @@
-use Rattle.sl_desk.specs.Running.{IsRunCode}
 use Rattle.sl_count_inputs.specs.Reading.{ForKnown}
 use Rattle.sl_count_inputs.specs.declared.status.Status.{Status}
+use Rattle.sl_desk.specs.JudgedRuns.{IsJudged, IsRunAnswer}
+use Rattle.sl_desk.specs.Running.{IsRunCode}
 use Rattle.sl_explain_calls.specs.Codes.{run_subject}
-use Rattle.sl_terminal_commands.proofs.Deliveries.{ends_answer}
+use Rattle.sl_terminal_commands.proofs.Deliveries.{ends_wider}
+use Rattle.sl_terminal_commands.proofs.Known.{for_known}
 use Rattle.sl_terminal_commands.proofs.Tellings.{ok_wider}
 use Rattle.sl_terminal_commands.proofs.terminal.Terminal.run_code.Goals as goal
 use Rattle.sl_terminal_commands.specs.Said.{Says, said_of}
 use Rattle.sl_terminal_commands.specs.Tellings.{IsOfRun}
 
-pub returns-clause-ends : goal.returns-clause-ends
-returns-clause-ends g c =
-    ends_answer
-    (λ status text. ForKnown (g.O.Outside.bytes c.args.self.now.outside c.args.code.now) (g.O.Outside.bytes c.args.self.now.outside c.args.returns.now) (λ file bytes. IsRunCode file bytes status text))
-    c.in_ok-read.answer.status c.in_ok-read.answer.text.items (g.W.Sink.contents c.args.self.now.out) (g.W.Sink.contents c.finish_run.new.self.out)
-    c.finish_run.result c.in_ok-read.ensures.answer c.finish_run.ensures.ends
+pub returns-in-Ok-clause-ends : goal.returns-in-Ok-clause-ends
+returns-in-Ok-clause-ends g c =
+    let bytes = g.O.Outside.bytes c.args.self.now.outside in
+    let code = bytes c.args.code.now in
+    let returns = bytes c.args.returns.now in
+    let judged = c.in-Ok.read.judged in
+    ends_wider (IsRunAnswer judged) (λ status text. ForKnown code returns (λ file known. IsRunCode file known status text)) (g.W.Sink.contents c.args.self.now.out)
+    (g.W.Sink.contents c.run_read-ended.new.self.out) c.run_read-ended.result
+    (λ status text is.
+    for_known (λ file known. IsJudged file known judged) (λ file known. IsRunCode file known status text) code returns is c.in-Ok.ensures.judged)
+    c.run_read-ended.ensures.ends
 
-pub returns-clause-told : goal.returns-clause-told
-returns-clause-told g c =
-    let says = Says g.E.Sink.contents c.args.self.now c.finish_run.new.self in
-    ok_wider (λ (ends : Status). says (said_of (run_subject c.in_ok-read.read.judged)))
-    (λ (ends : Status). IsOfRun (g.O.Outside.bytes c.args.self.now.outside) c.args.code.now c.args.returns.now says) c.finish_run.result
-    (λ ends told. (c.in_ok-read.read.judged, c.in_ok-read.ensures.judged, told)) c.finish_run.ensures.told
+pub returns-in-Ok-clause-told : goal.returns-in-Ok-clause-told
+returns-in-Ok-clause-told g c =
+    let says = Says g.E.Sink.contents c.args.self.now c.run_read-ended.new.self in
+    ok_wider (λ (ends : Status). says (said_of (run_subject c.in-Ok.read.judged)))
+    (λ (ends : Status). IsOfRun (g.O.Outside.bytes c.args.self.now.outside) c.args.code.now c.args.returns.now says) c.run_read-ended.result
+    (λ ends told. (c.in-Ok.read.judged, c.in-Ok.ensures.judged, told)) c.run_read-ended.ensures.told

@@ -1,6 +1,6 @@
 //! Priority tables beside lists, from which an entry is taken by going through all; and tables from which seats are awarded beside priority tables.
 
-use crate::dice::Dice;
+use crate::numbers::dice::Dice;
 use sl_prio::{AwardTable, Prio};
 use sl_ratio::Entry;
 use std::alloc::Global;

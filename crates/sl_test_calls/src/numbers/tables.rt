@@ -1,6 +1,6 @@
 //! Priority tables, step by step.
 
-use crate::quotients::{Quotient, entry};
+use crate::numbers::quotients::{Quotient, entry};
 use sl_prio::Prio;
 use sl_ratio::Entry;
 use std::alloc::{AllocError, Global};

@@ -1,6 +1,6 @@
 //! Steps of priority tables.
 
-use crate::tables::Step;
+use crate::numbers::tables::Step;
 
 /// Tables, and the steps that are made of each.
 pub const TABLES: [(&str, &[Step]); 7] = [

@@ -1,6 +1,6 @@
 //! Numbers in no order, and entries and lots of them.
 
-use crate::quotients::entry;
+use crate::numbers::quotients::entry;
 use sl_ratio::Entry;
 
 /// Numbers in no order, for entries with so many indexes, which stand `spread` apart.
