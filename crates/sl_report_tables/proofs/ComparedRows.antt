@@ -1,7 +1,7 @@
 -- The tables beside the first rulebook, where there is one.
 use Rattle.std.proofs.Common.{◌≡◌, ◌∙◌, ◌<◌, List, [], ◌∷◌, Some, ap, arith, drop, length, map, refl, string_bytes, sym}
 use Rattle.std.specs.List.{flat_map}
-use Rattle.std.specs.Prelude.{None, Option, codes, is_some, slice_get, true, unwrap_or}
+use Rattle.std.specs.Prelude.{None, Option, codes, false, is_some, slice_get, true, unwrap_or}
 use Rattle.sl_report_forms.specs.Cells.{Content}
 use Rattle.sl_report_forms.specs.Tables.{Table, blank_table, with_columns, with_rows}
 use Rattle.sl_report_tables.specs.Compare.{change_row, changes_table, compared, rows_from, seats_row, seats_table}
@@ -19,11 +19,23 @@ all_rows : (o : Option Counted) (rows : List (List Content)) → is_some o ≡ t
 all_rows None rows counted = cc
 all_rows (Some c) rows counted = refl
 
+none_rows : (o : Option Counted) (rows : List (List Content)) → is_some o ≡ false → rows_from o rows ≡ []
+none_rows None rows none = refl
+none_rows (Some c) rows none = cc
+
 module _ (e : Election) where
   pub no_changes : (books : List Judged) → length books < 2 → blank_changes ≡ changes_table e books
   no_changes [] few = refl
   no_changes (j ∷ []) few = refl
   no_changes (j ∷ k ∷ others) few = absurd (omega (arith, few))
+
+  pub no_count : (first : Judged) (books : List Judged) → slice_get books 0 ≡ Some first → 1 < length books → is_some first.counted ≡ false →
+      with_columns blank_changes (map (λ j. string_bytes j.word) (drop 1 books)) ≡ changes_table e books
+  no_count first [] at more none = absurd (omega (arith, more))
+  no_count first (j ∷ []) at more none = absurd (omega (arith, more))
+  no_count first (j ∷ k ∷ others) at more none =
+      ap (with_rows (with_columns blank_changes (map (λ i. string_bytes i.word) (k ∷ others))))
+      (sym (none_rows j.counted (map (change_row e j (k ∷ others)) (compared e)) (ap (λ o. is_some (unwrap_or o j).counted) at ∙ none)))
 
   pub some_changes : (first : Judged) (books : List Judged) → slice_get books 0 ≡ Some first → 1 < length books → is_some first.counted ≡ true →
       with_rows (with_columns blank_changes (map (λ j. string_bytes j.word) (drop 1 books))) (map (change_row e first (drop 1 books)) (compared e)) ≡ changes_table e books

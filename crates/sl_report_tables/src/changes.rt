@@ -127,8 +127,7 @@ pub(crate) fn changes_sheet(
     if first.counted.is_none() {
         return Ok(sheet);
     }
-    push_changes(alloc, &mut sheet, naming, first, others)?;
-    Ok(sheet)
+    push_changes(alloc, &mut sheet, naming, first, others).and(Ok(sheet))
 }
 
 // Adds the row of a book and a party, or of all parties.
@@ -173,7 +172,6 @@ fn push_book(
 }
 
 // Adds the rows of each book.
-#[tactic(auto, using(crate::proofs::MoreRows::rows_flat))]
 fn push_books(
     alloc: Global,
     sheet: &mut Sheet,
@@ -201,6 +199,5 @@ pub(crate) fn each_sheet(
     let Some(first) = books.first() else {
         return Ok(sheet);
     };
-    push_books(alloc, &mut sheet, naming, first, books)?;
-    Ok(sheet)
+    push_books(alloc, &mut sheet, naming, first, books).and(Ok(sheet))
 }

@@ -219,22 +219,6 @@ fn push_compared(
     sheet.push(row)
 }
 
-// Adds the rows of all together, and of each party.
-fn push_rows(
-    alloc: Global,
-    sheet: &mut Sheet,
-    naming: &Naming<'_>,
-    books: &[Judged],
-) -> Result<(), NoMemory>
-    ensures { OnOk result (table_of sheet.new ≡ with_rows (table_of sheet.old) (map (compared_row naming.now.returns.now books.now) (compared naming.now.returns.now))) }
-{
-    push_compared(alloc, sheet, naming, books, None)?;
-    for party in 0..naming.returns.parties() {
-        push_compared(alloc, sheet, naming, books, Some(party))?;
-    }
-    Ok(())
-}
-
 /// Adds a column for each book.
 pub(crate) fn push_heads(alloc: Global, sheet: &mut Sheet, books: &[Judged]) -> Result<(), NoMemory>
     ensures { OnOk result (table_of sheet.new ≡ with_columns (table_of sheet.old) (map (λ j. string_bytes j.word) books.now)) }
@@ -246,14 +230,29 @@ pub(crate) fn push_heads(alloc: Global, sheet: &mut Sheet, books: &[Judged]) -> 
     Ok(())
 }
 
+// Adds a column for each book, and the rows of all together and of each party.
+fn fill_seats(
+    alloc: Global,
+    sheet: &mut Sheet,
+    naming: &Naming<'_>,
+    books: &[Judged],
+) -> Result<(), NoMemory>
+    ensures { OnOk result (table_of sheet.new ≡ with_rows (with_columns (table_of sheet.old) (map (λ j. string_bytes j.word) books.now)) (map (compared_row naming.now.returns.now books.now) (compared naming.now.returns.now))) }
+{
+    push_heads(alloc, sheet, books)?;
+    push_compared(alloc, sheet, naming, books, None)?;
+    for party in 0..naming.returns.parties() {
+        push_compared(alloc, sheet, naming, books, Some(party))?;
+    }
+    Ok(())
+}
+
 // The parties in rows, with a column for each book.
 fn seats_sheet(alloc: Global, naming: &Naming<'_>, books: &[Judged]) -> Result<Sheet, NoMemory>
     ensures { IfOk result (λ s. table_of s ≡ compare_table naming.now.returns.now books.now) }
 {
     let mut sheet = titled(alloc, naming, "compare", COMPARED_TITLE, &COMPARE)?;
-    push_heads(alloc, &mut sheet, books)?;
-    push_rows(alloc, &mut sheet, naming, books)?;
-    Ok(sheet)
+    fill_seats(alloc, &mut sheet, naming, books).and(Ok(sheet))
 }
 
 /// The sheets of several books on the returns: a line for each book, the parties in rows with a column for each book, how they differ from the first

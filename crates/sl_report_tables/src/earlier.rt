@@ -18,7 +18,6 @@ fn cut(line: &str) -> Option<(&str, &str)>
 }
 
 // The party of a line that tells one.
-#[tactic(auto, using(crate::proofs::EarlierSteps::too_many))]
 fn party_in(line: &str) -> Option<EarlierParty<'_>>
     ensures { option_map party_told result ≡ told_party (words line.now) }
 {

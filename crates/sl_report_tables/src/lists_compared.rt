@@ -37,16 +37,22 @@ fn seats_at(line: ListSeats, land: usize, party: usize) -> u64
     }
 }
 
-// A book beside its lines in a Land.
-fn in_land<'a>(alloc: Global, judged: &'a Judged, land: usize) -> Result<Local<'a>, NoMemory>
-    ensures { IfOk result (λ x. seen x ≡ with_land land judged.now) }
+// Adds a book beside its lines in a Land.
+fn add_local<'a>(
+    alloc: Global,
+    all: &mut Vec<Local<'a>>,
+    judged: &'a Judged,
+    land: usize,
+) -> Result<(), NoMemory>
+    ensures { OnOk result (map seen all.new.items ≡ map seen all.old.items ++ with_land land judged.now ∷ []) }
 {
     let lines = lines_in(alloc, judged, land)?;
-    Ok(Local {
+    all.push(Local {
         judged,
         land,
         lines,
-    })
+    })?;
+    Ok(())
 }
 
 // Each book beside its lines in a Land.
@@ -55,7 +61,7 @@ fn locals<'a>(alloc: Global, books: &'a [Judged], land: usize) -> Result<Vec<Loc
 {
     let mut all: Vec<Local<'a>> = Vec::new(alloc);
     for judged in books {
-        all.push(in_land(alloc, judged, land)?)?;
+        add_local(alloc, &mut all, judged, land)?;
     }
     Ok(all)
 }
@@ -141,8 +147,7 @@ fn push_row(
     let names = [Part::Land(land), Part::Party(party)];
     put_parts(alloc, &mut row, naming, &names)?;
     put_seats(alloc, &mut row, naming, locals, party)?;
-    sheet.push(row)?;
-    Ok(())
+    sheet.push(row)
 }
 
 // Adds the row of a list, if it has seats by one of the books.

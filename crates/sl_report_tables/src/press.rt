@@ -126,7 +126,6 @@ fn push_sum(
 }
 
 // Adds the rows of these parties, of so many valid votes in all.
-#[tactic(auto, using(crate::proofs::MoreRows::rows_next))]
 fn push_each(
     alloc: Global,
     sheet: &mut Sheet,
@@ -167,7 +166,6 @@ fn push_gone(
 }
 
 // Adds the rows of these parties.
-#[tactic(auto, using(crate::proofs::MoreRows::rows_next))]
 fn push_all_gone(
     alloc: Global,
     sheet: &mut Sheet,
