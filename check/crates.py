@@ -1,12 +1,12 @@
 #!/usr/bin/env python3
-"""Says where crates.txt, the heads of the crates and docs/map.md do not agree. Not part of the gate.
+"""Says where crates.txt, the heads of the crates, docs/map.md and the script seatlaw do not agree. Not part of the gate.
 
     python3 check/crates.py
 
 crates.txt has the crates in groups by room, the rooms in the order of ROOMS, and in each group the lowest first. A crate is named
 sl_ROOM_THING of its room, but for those of KEPT and the programs. The head comment of its src/lib.rt, or src/main.rt, says on which crates it
 stands and which rooms use it: those of the crates that name it and reach it by no other way, and further ones that name it. The map has it in the table of its room, with those on which it stands. Named are the nearest crates, without
-those that are reached by way of others. A line is written for each thing that is wrong; the exit status is 0 if nothing is.
+those that are reached by way of others. Each crate that the script names is there. A line is written for each thing that is wrong; the exit status is 0 if nothing is.
 """
 import pathlib
 import re
@@ -137,9 +137,14 @@ def stands_on(listed, name):
     return ", ".join(cells) or "no other crate"
 
 
+def wrong_script(listed):
+    for name in sorted(set(re.findall(r"\bsl_\w+", (TOP / "seatlaw").read_text())) - set(listed.uses)):
+        yield "seatlaw: there is no crate %s" % name
+
+
 def wrong():
     listed = Listed()
-    for look in (wrong_groups, wrong_names, wrong_heads, wrong_map):
+    for look in (wrong_groups, wrong_names, wrong_heads, wrong_map, wrong_script):
         yield from look(listed)
 
 
