@@ -34,7 +34,7 @@ PROMISING = {
     CRATES / name
     for name in (
         "sl_count_inputs", "sl_count_code_files", "sl_count_calls", "sl_desk", "sl_explain_texts", "sl_explain_calls", "sl_law_library",
-        "sl_law_margins", "sl_report_commands", "sl_page_calls", "sl_terminal_count", "sl_terminal_commands",
+        "sl_law_margins", "sl_report_commands", "sl_page_calls", "sl_terminal_count", "sl_terminal_outside", "sl_terminal_commands",
     )
 }
 WORD = re.compile(r"[^\W\d]\w*")
@@ -127,7 +127,7 @@ def contracts(path, which=None):
 def reached_by(path, text):
     seen, types = set(), set()
     reach(path, text, seen, types)
-    for trait, crate in (("Source", "sl_count_inputs"), ("Sink", "sl_count_inputs"), ("Outside", "sl_terminal_count")):
+    for trait, crate in (("Source", "sl_count_inputs"), ("Sink", "sl_count_inputs"), ("Outside", "sl_terminal_outside")):
         if re.search(rf"\b{trait}\b", text):
             place = CRATES / crate / "src" / f"{trait.lower()}.rt"
             reach(place, blocks(place, trait), seen, types)

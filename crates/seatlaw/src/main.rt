@@ -5,7 +5,7 @@
 
 use sl_count_inputs::ToWrite;
 use sl_terminal_commands::{Terminal, run};
-use sl_terminal_count::Host;
+use sl_terminal_outside::Host;
 use std::fs::File;
 use std::process::ExitCode;
 

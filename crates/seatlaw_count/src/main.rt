@@ -5,7 +5,8 @@
 #![tactic(auto)]
 
 use sl_count_inputs::ToWrite;
-use sl_terminal_count::{Host, run};
+use sl_terminal_count::run;
+use sl_terminal_outside::Host;
 use std::process::ExitCode;
 
 fn main(rt: HostRuntime) -> anyhow::Result<ExitCode> {

@@ -1,7 +1,7 @@
 -- Words: the names of stages (docs/language.md, section 1).
 use Rattle.std.specs.Prelude.{ℕ, Bool, false, ◌&&◌, ◌||◌, List, [], ◌∷◌, length, nat_eq, nat_le}
 use Rattle.std.specs.List.{list_all}
-use Rattle.sl_ratio.specs.declared.names.TheConstants.{MAX_NAME_BYTES}
+use Rattle.sl_base_quotients.specs.declared.spelling.TheConstants.{MAX_NAME_BYTES}
 
 abbrev pub is_letter : ℕ → Bool
 is_letter b = (nat_le 65 b && nat_le b 90) || (nat_le 97 b && nat_le b 122)

@@ -1,6 +1,6 @@
 //! What rulebooks and counting code both speak of: the shapes of columns, the names of stages, and tests in their order.
 //!
-//! Stands on `sl_ratio`; used by the rooms law and code. Proved: which test of a list fails first.
+//! Stands on `sl_base_quotients`; used by the rooms law and code. Proved: which test of a list fails first.
 #![tactic(auto)]
 
 mod limits;

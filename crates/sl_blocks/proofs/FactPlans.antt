@@ -1,8 +1,8 @@
 -- The plans of the facts: that of the eligible parties, from those of its conditions.
 use Rattle.std.proofs.Common.{◌≡◌, ℕ, Bool, true, false, cond, List, [], ◌∷◌, ◌++◌, Option, None, Some, is_some, refl, ap, ◌∙◌}
 use Rattle.std.specs.Prelude.{unwrap_or}
-use Rattle.sl_stages.specs.declared.book.Cond.{Cond}
-use Rattle.sl_stages.specs.declared.book.Cond.TheVariants as condition
+use Rattle.sl_law_meaning.specs.declared.book.Cond.{Cond}
+use Rattle.sl_law_meaning.specs.declared.book.Cond.TheVariants as condition
 use Rattle.sl_code_instructions.specs.declared.instr.Instr.TheVariants.{Zero}
 use Rattle.sl_compile_plans.specs.Trees.{Tree, Line, Then}
 use Rattle.sl_compile_pieces.specs.facts.Trees.{nothing, condition_tree, conditions_tree, eligible_tree}

@@ -1,13 +1,13 @@
 -- Plans that make blocks of what they say: columns, facts, the last clause, splits and growths.
 use Rattle.std.proofs.Common.{◌≡◌, ℕ, ◌<◌, ◌^◌, true, List, [], ◌∷◌, length, flat_map, Result, Ok, Err, IfOk, refl, subst, arith}
 use Rattle.std.proofs.lemmas.List.Elements.{recursion_from_All, All-weaker}
-use Rattle.sl_stages.specs.declared.fact.Fact.{Fact}
-use Rattle.sl_stages.specs.declared.book.Axis.{Axis}
-use Rattle.sl_stages.specs.declared.book.Cond.{Cond}
-use Rattle.sl_stages.specs.declared.book.Pairing.{Pairing}
+use Rattle.sl_law_meaning.specs.declared.fact.Fact.{Fact}
+use Rattle.sl_law_meaning.specs.declared.book.Axis.{Axis}
+use Rattle.sl_law_meaning.specs.declared.book.Cond.{Cond}
+use Rattle.sl_law_meaning.specs.declared.book.Pairing.{Pairing}
 use Rattle.sl_base_terms.specs.declared.shape.Shape.{Shape}
-use Rattle.sl_stages.specs.book.Limits.{condition_numbers}
-use Rattle.sl_stages.specs.book.Typing.{can_sum}
+use Rattle.sl_law_meaning.specs.book.Limits.{condition_numbers}
+use Rattle.sl_law_meaning.specs.book.Typing.{can_sum}
 use Rattle.sl_code_instructions.specs.declared.instr.Instr.{Instr}
 use Rattle.sl_code_instructions.specs.declared.instr.Instr.TheVariants.{Input}
 use Rattle.sl_code_instructions.specs.declared.operand.Input.TheVariants as input

@@ -1,10 +1,10 @@
 -- The plans of the facts, and the slots that they work in.
 use Rattle.std.specs.Prelude.{ℕ, List, [], ◌∷◌, ◌++◌, map}
-use Rattle.sl_stages.specs.declared.fact.TheConstants.{FACTS}
-use Rattle.sl_stages.specs.declared.book.Cond.{Cond}
+use Rattle.sl_law_meaning.specs.declared.fact.TheConstants.{FACTS}
+use Rattle.sl_law_meaning.specs.declared.book.Cond.{Cond}
 use Rattle.sl_base_terms.specs.declared.shape.Shape.{Shape}
 use Rattle.sl_base_terms.specs.declared.shape.Shape.TheVariants as shape
-use Rattle.sl_stages.specs.book.Typing.{fact_type}
+use Rattle.sl_law_meaning.specs.book.Typing.{fact_type}
 use Rattle.sl_code_instructions.specs.Codes.{CountingCode}
 use Rattle.sl_compile_plans.specs.Trees.{Tree}
 use Rattle.sl_compile_pieces.specs.facts.Trees.{eligible_tree, fact_tree}

@@ -1,6 +1,6 @@
 -- Blocks of plans: each does what its plan says, in the plan's cost (docs/blocks.md, section 7). A compiler builds on them.
 use Rattle.std.specs.Prelude.{◌≡◌, ℕ, ◌+◌, ◌≤◌, List, [], ◌∷◌, length, Some, slice_get}
-use Rattle.sl_stages.specs.declared.book.Axis.{Axis}
+use Rattle.sl_law_meaning.specs.declared.book.Axis.{Axis}
 use Rattle.sl_base_terms.specs.declared.shape.Shape.{Shape}
 use Rattle.sl_code_instructions.specs.declared.code.TheConstants.{MAX_INSTRS}
 use Rattle.sl_code_instructions.specs.declared.instr.Instr.{Instr}

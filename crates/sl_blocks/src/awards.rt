@@ -2,18 +2,18 @@
 
 ghost use Rattle.std.specs.Prelude.{◌≡◌, List};
 ghost use Rattle.sl_code_instructions.specs.declared.instr.Instr.{Instr};
-ghost use Rattle.sl_compile_plans.specs.inner.Layout.{tree_of};
+ghost use Rattle.sl_compile_layout.specs.inner.Layout.{tree_of};
 ghost use Rattle.sl_blocks.specs.inner.Given.{given_of};
 ghost use Rattle.sl_blocks.specs.inner.LayoutParts.{count_left, whole_batches, drawn_batch};
 
 use crate::batches::batches;
 use crate::blanks::{Block, DRAW, EMIT, ENTER_HELD, GET_HELD, GET_WEIGHT, STORE_HELD, TIE};
 use crate::entries::NOTHING;
+use sl_base_quotients::{MAX_SEATS, Method};
 use sl_code_instructions::Instr;
+use sl_compile_layout::Part::Fixed;
+use sl_compile_layout::{Bound, ONES, Plan, Test};
 use sl_compile_pieces::registers::{ALL_LEFT, HELD, IN_BATCH, LEFT, PEERS, STEP, TURNS, WEIGHT};
-use sl_compile_plans::Part::Fixed;
-use sl_compile_plans::{Bound, ONES, Plan, Test};
-use sl_ratio::{MAX_SEATS, Method};
 
 pub const COUNT_LEFT: &Plan<'static> = &Plan::Line(&[
     Fixed(Instr::Mov(ALL_LEFT, LEFT)),

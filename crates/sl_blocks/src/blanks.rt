@@ -7,11 +7,11 @@ ghost use Rattle.sl_compile_pieces.specs.seats.Trees.{ranking_of};
 
 use crate::form::{kind_of, table_of};
 use crate::job::Job;
+use sl_base_quotients::{Divisor, Method};
 use sl_code_instructions::{EndFault, Instr, Ranking, Rounding};
+use sl_compile_layout::Part;
 use sl_compile_pieces::Form;
 use sl_compile_pieces::registers::{AMOUNT, BASE, FIRST_PASSING, HELD, LEFT, NUMBER, STEP, WEIGHT};
-use sl_compile_plans::Part;
-use sl_ratio::{Divisor, Method};
 
 /// A split or a growth as it is laid out.
 #[derive(Clone, Copy)]

@@ -1,7 +1,7 @@
 //! A block: first what comes in each of its scopes after the first seats.
 
 ghost use Rattle.std.specs.Prelude.{◌≡◌, ◌+◌, ◌<◌, IfOk, OnErr, IsSome, vec_len};
-ghost use Rattle.sl_compile_plans.specs.inner.Layout.{tree_of};
+ghost use Rattle.sl_compile_layout.specs.inner.Layout.{tree_of};
 ghost use Rattle.sl_compile_plans.specs.Trees.{size_of};
 ghost use Rattle.sl_blocks.specs.inner.Given.{given_of};
 ghost use Rattle.sl_blocks.specs.inner.Layout.{IsLaid};
@@ -13,10 +13,10 @@ use crate::entries::NOTHING;
 use crate::growths::lay_growth_with;
 use crate::majority::refuse;
 use crate::splits::lay_split_with;
+use sl_base_quotients::NoMemory;
 use sl_code_instructions::{Instr, MAX_INSTRS};
+use sl_compile_layout::{Plan, Test};
 use sl_compile_pieces::registers::{LEFT, PEERS};
-use sl_compile_plans::{Plan, Test};
-use sl_ratio::NoMemory;
 
 /// The most instructions of a block, with its declaration.
 pub const MAX_BLOCK_INSTRS: usize = 1_000;

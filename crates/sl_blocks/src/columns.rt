@@ -2,19 +2,19 @@
 
 ghost use Rattle.std.specs.Prelude.{◌≡◌, ◌+◌, ◌<◌, ℕ, [], ◌∷◌, true, IfOk, OnErr, vec_len};
 ghost use Rattle.sl_code_instructions.specs.declared.instr.Instr.TheVariants.{Get, Store};
-ghost use Rattle.sl_compile_plans.specs.inner.Layout.{tree_of};
+ghost use Rattle.sl_compile_layout.specs.inner.Layout.{tree_of};
 ghost use Rattle.sl_compile_plans.specs.Trees.{size_of};
 ghost use Rattle.sl_compile_pieces.specs.columns.Trees.{cells_plan, copy_tree, pair_instr, pair_tree, sum_tree};
-ghost use Rattle.sl_stages.specs.book.Typing.{can_sum};
+ghost use Rattle.sl_law_meaning.specs.book.Typing.{can_sum};
 ghost use Rattle.sl_blocks.specs.inner.Layout.{IsLaid};
 ghost use Rattle.sl_blocks.specs.PlanBlocks.{AreBlocks, HasCopy, HasPair, HasRoom, HasSum};
 
+use sl_base_quotients::NoMemory;
 use sl_code_instructions::{Instr, MAX_INSTRS};
+use sl_compile_layout::Part::{Fixed, Given};
+use sl_compile_layout::{Cursor, Plan, lay};
 use sl_compile_pieces::registers::{CELL, OTHER, TOTAL};
-use sl_compile_plans::Part::{Fixed, Given};
-use sl_compile_plans::{Cursor, Plan, lay};
-use sl_ratio::NoMemory;
-use sl_stages::{Axis, Pairing, Shape};
+use sl_law_meaning::{Axis, Pairing, Shape};
 
 const COPY: &Plan<'static> = &Plan::Line(&[Given(0), Given(1)]);
 

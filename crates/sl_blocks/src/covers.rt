@@ -1,7 +1,7 @@
 //! The block of a covering.
 
 ghost use Rattle.std.specs.Prelude.{◌≡◌, ◌+◌, ◌≤◌, [], ◌∷◌, IfOk, OnErr, vec_len};
-ghost use Rattle.sl_compile_plans.specs.inner.Layout.{tree_of};
+ghost use Rattle.sl_compile_layout.specs.inner.Layout.{tree_of};
 ghost use Rattle.sl_compile_pieces.specs.covers.Trees.{CoverSlots, cover_contested, cover_tree};
 ghost use Rattle.sl_blocks.specs.Blocks.{HasSlotsOf};
 ghost use Rattle.sl_blocks.specs.inner.Covers.{cover_given, cover_slots, IsCoverBlock, IsCoverJob};
@@ -11,16 +11,16 @@ use crate::awards::{COUNT_LEFT, COUNT_STEP, LESS_LEFT, WHOLE_BATCH, draw_seats};
 use crate::batches::batches;
 use crate::blocks::MAX_BLOCK_INSTRS;
 use crate::entries::NOTHING;
+use sl_base_quotients::NoMemory;
 use sl_code_instructions::{Entries, Instr, MAX_INSTRS, Ranking, ScopeKind};
 use sl_code_semantics::LAST_CLAUSE;
+use sl_compile_layout::Part::Fixed;
+use sl_compile_layout::{Bound, Cursor, ONES, Part, Plan, Test, lay};
 use sl_compile_pieces::registers::{
     AMOUNT, BASE, FIRST_PASSING, IN_BATCH, LEFT, NEEDED, PEERS, SECOND_PASSING, TOTAL, TURNS,
     WEIGHT,
 };
-use sl_compile_plans::Part::Fixed;
-use sl_compile_plans::{Bound, Cursor, ONES, Part, Plan, Test, lay};
-use sl_ratio::NoMemory;
-use sl_stages::Shape;
+use sl_law_meaning::Shape;
 
 /// How many winners the list at the cursors has; later, its number.
 const GET_NUMBER: Part = Part::Given(0);

@@ -1,6 +1,6 @@
 //! One condition at most of each kind.
 
-use sl_stages::Number;
+use sl_law_meaning::Number;
 
 /// At least `share` votes in each `per` of all valid votes.
 #[derive(Clone, Copy)]

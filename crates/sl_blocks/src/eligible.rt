@@ -2,7 +2,7 @@
 
 ghost use Rattle.std.specs.Prelude.{◌≡◌, [], ◌∷◌, Bool, List, IfOk, OnErr, cond};
 ghost use Rattle.sl_code_instructions.specs.declared.instr.Instr.{Instr as SpecInstr};
-ghost use Rattle.sl_compile_plans.specs.inner.Layout.{tree_of};
+ghost use Rattle.sl_compile_layout.specs.inner.Layout.{tree_of};
 ghost use Rattle.sl_compile_plans.specs.Trees.{Then};
 ghost use Rattle.sl_compile_pieces.specs.facts.Trees.{eligible_tree};
 ghost use Rattle.sl_compile_pieces.specs.exprs.Slots.{fact_slots};
@@ -12,12 +12,12 @@ ghost use Rattle.sl_blocks.specs.inner.Few.{AreSmall, few_of, given_of};
 
 use crate::easiest::Easiest;
 use crate::entries::NOTHING;
+use sl_base_quotients::NoMemory;
 use sl_code_instructions::{Input, Instr};
+use sl_compile_layout::Part::{Fixed, Given};
+use sl_compile_layout::{Cursor, ONES, Plan, Test, lay};
 use sl_compile_pieces::registers::{CELL, OTHER, OWN, TOTAL};
 use sl_compile_pieces::slots::{ELIGIBLE, NUMBERS, VOTES};
-use sl_compile_plans::Part::{Fixed, Given};
-use sl_compile_plans::{Cursor, ONES, Plan, Test, lay};
-use sl_ratio::NoMemory;
 
 /// One more in the column's cell at the cursors.
 macro_rules! count_one {

@@ -2,14 +2,14 @@
 
 ghost use Rattle.std.specs.Prelude.{◌≡◌, List};
 ghost use Rattle.sl_code_instructions.specs.declared.instr.Instr.{Instr};
-ghost use Rattle.sl_compile_plans.specs.inner.Layout.{tree_of};
+ghost use Rattle.sl_compile_layout.specs.inner.Layout.{tree_of};
 ghost use Rattle.sl_compile_plans.specs.declared.plan.Cursor.TheVariants as cursor;
 ghost use Rattle.sl_compile_plans.specs.Trees.{Each};
 ghost use Rattle.sl_compile_pieces.specs.scopes.Forms.{on_list, entries_plan, scopes_plan};
 ghost use Rattle.sl_blocks.specs.inner.LayoutParts.{inside, entry_in};
 
+use sl_compile_layout::{Cursor, Plan, Test};
 use sl_compile_pieces::Form;
-use sl_compile_plans::{Cursor, Plan, Test};
 
 pub const NOTHING: &Plan<'static> = &Plan::Line(&[]);
 

@@ -2,7 +2,7 @@
 
 ghost use Rattle.std.specs.Prelude.{◌≡◌, ℕ, [], ◌∷◌, IfOk, OnErr};
 ghost use Rattle.sl_code_instructions.specs.declared.instr.Instr.TheVariants.{Set};
-ghost use Rattle.sl_compile_plans.specs.inner.Layout.{tree_of};
+ghost use Rattle.sl_compile_layout.specs.inner.Layout.{tree_of};
 ghost use Rattle.sl_compile_pieces.specs.facts.Trees.{fact_tree};
 ghost use Rattle.sl_compile_pieces.specs.exprs.Slots.{fact_slots};
 ghost use Rattle.sl_blocks.specs.Facts.{HasFirstSlots};
@@ -10,13 +10,13 @@ ghost use Rattle.sl_blocks.specs.PlanBlocks.{AreBlocks, HasRoom};
 
 use crate::eligible::count_one;
 use crate::entries::NOTHING;
+use sl_base_quotients::NoMemory;
 use sl_code_instructions::{Input, Instr};
+use sl_compile_layout::Part::{Fixed, Given};
+use sl_compile_layout::{Cursor, ONES, Plan, Test, lay};
 use sl_compile_pieces::registers::{CELL, OTHER};
 use sl_compile_pieces::slots::{ELIGIBLE, FIRST_FACT};
-use sl_compile_plans::Part::{Fixed, Given};
-use sl_compile_plans::{Cursor, ONES, Plan, Test, lay};
-use sl_ratio::NoMemory;
-use sl_stages::Fact;
+use sl_law_meaning::Fact;
 
 const HOUSE: u8 = FIRST_FACT + Fact::House as u8;
 

@@ -1,20 +1,20 @@
 //! The first seats of each entry, and how it enters the table.
 
 ghost use Rattle.std.specs.Prelude.{◌≡◌, IsSome};
-ghost use Rattle.sl_compile_plans.specs.inner.Layout.{tree_of};
+ghost use Rattle.sl_compile_layout.specs.inner.Layout.{tree_of};
 ghost use Rattle.sl_blocks.specs.inner.Given.{given_of};
 ghost use Rattle.sl_blocks.specs.inner.LayoutParts.{fill_entries, fill_outside};
 
 use crate::blanks::{Block, ENTER_BASE, GET_MINIMUM, GET_WEIGHT, GIVE, STORE_BASE, TABLE, WEIGH};
 use crate::entries::{NOTHING, by_party, each_entry};
+use sl_base_quotients::{MAX_SEATS, Method};
 use sl_code_instructions::Instr;
+use sl_compile_layout::Part::Fixed;
+use sl_compile_layout::{Bound, Cursor, ONES, Plan, Test};
 use sl_compile_pieces::registers::{
     AMOUNT, BASE, FIRST_PASSING, LEFT, NUMBER, SECOND_PASSING, STEP, TOTAL, TURNS, WEIGHT,
 };
-use sl_compile_plans::Part::Fixed;
-use sl_compile_plans::{Bound, Cursor, ONES, Plan, Test};
-use sl_ratio::{MAX_SEATS, Method};
-use sl_stages::Majority;
+use sl_law_meaning::Majority;
 
 pub const CLEAR_TABLE: &Plan<'static> = &Plan::Line(&[TABLE, Fixed(Instr::Mov(LEFT, AMOUNT))]);
 

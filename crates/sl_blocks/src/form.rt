@@ -8,7 +8,7 @@ ghost use Rattle.sl_blocks.specs.inner.Jobs.{IsJob};
 use crate::job::Job;
 use sl_code_instructions::{Entries, ScopeKind};
 use sl_compile_pieces::Form;
-use sl_stages::Shape;
+use sl_law_meaning::Shape;
 
 /// The form by the shapes of the amounts and of the votes.
 pub fn form_of(slots: &[Shape], job: &Job) -> Form

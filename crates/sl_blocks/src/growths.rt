@@ -1,7 +1,7 @@
 //! The block of a growth.
 
 ghost use Rattle.std.specs.Prelude.{◌≡◌, ◌+◌, ◌<◌, ◌≤◌, IfOk, OnErr, vec_len, IsSome, unwrap_or};
-ghost use Rattle.sl_compile_plans.specs.inner.Layout.{tree_of};
+ghost use Rattle.sl_compile_layout.specs.inner.Layout.{tree_of};
 ghost use Rattle.sl_compile_plans.specs.Trees.{size_of};
 ghost use Rattle.sl_blocks.specs.inner.Given.{given_of};
 ghost use Rattle.sl_blocks.specs.inner.Jobs.{IsGrowthBlock, IsGrowthJob, IsGrowthPlan};
@@ -15,10 +15,10 @@ use crate::form::form_of;
 use crate::houses::{CLEAR_SEARCH, TAKE_HOUSE, WITHIN_CAP, search_batches, search_entries};
 use crate::job::Job;
 use crate::sums::{lay_sums_with, some_votes};
+use sl_base_quotients::{Divisor, Method, NoMemory};
 use sl_code_instructions::{Instr, MAX_INSTRS};
-use sl_compile_plans::Plan;
-use sl_ratio::{Divisor, Method, NoMemory};
-use sl_stages::Shape;
+use sl_compile_layout::Plan;
+use sl_law_meaning::Shape;
 
 /// Appends the block of a growth by a divisor method up to a cap of seats (docs/blocks.md, section 5), which leaves the entries'
 /// seats in the slot of the result, or ends the run with the growth's fault. It is the plan of `sl_compile_pieces` after a declaration.

@@ -1,7 +1,7 @@
 //! The house of a growth: the search for it, and the amount that grows to it.
 
 ghost use Rattle.std.specs.Prelude.{◌≡◌, unwrap_or};
-ghost use Rattle.sl_compile_plans.specs.inner.Layout.{tree_of};
+ghost use Rattle.sl_compile_layout.specs.inner.Layout.{tree_of};
 ghost use Rattle.sl_blocks.specs.declared.blanks.Block.{Block as SpecBlock};
 ghost use Rattle.sl_blocks.specs.inner.Given.{given_of};
 ghost use Rattle.sl_blocks.specs.inner.LayoutParts.{search_entries, search_batches};
@@ -13,14 +13,14 @@ use crate::blanks::{
     SEARCH_TABLE, STORE_HELD,
 };
 use crate::entries::{NOTHING, by_party, each_entry};
+use sl_base_quotients::MAX_SEATS;
 use sl_code_instructions::Instr;
+use sl_compile_layout::Part::Fixed;
+use sl_compile_layout::{Bound, Cursor, ONES, Plan, Test};
 use sl_compile_pieces::registers::{
     ALL_LEFT, AMOUNT, BASE, FIRST_PASSING, HELD, IN_BATCH, LEFT, NEEDED, NUMBER, PEERS, TURNS,
     WEIGHT,
 };
-use sl_compile_plans::Part::Fixed;
-use sl_compile_plans::{Bound, Cursor, ONES, Plan, Test};
-use sl_ratio::MAX_SEATS;
 
 /// Ends where the minima need more seats than the cap.
 pub const WITHIN_CAP: &Plan<'static> = &Plan::Then(

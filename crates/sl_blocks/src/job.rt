@@ -1,6 +1,6 @@
 //! What a block of code is asked for.
 
-use sl_stages::Majority;
+use sl_law_meaning::Majority;
 
 /// A split or a growth: its stage, the slots of its columns, and the majority clause.
 #[derive(Clone, Copy)]

@@ -1,7 +1,7 @@
 //! Blocks of counting code: those of facts, of columns, of a split, a growth and a covering, and of the last clause.
 //!
-//! Stands on `sl_compile_pieces`; used by the room compile. Proved: each block does what its plan says, within its share of steps, and passes the
-//! verifier wherever its slots are.
+//! Stands on `sl_compile_layout` and `sl_compile_pieces`; used by the room compile. Proved: each block does what its plan says, within its share of
+//! steps, and passes the verifier wherever its slots are.
 #![tactic(auto)]
 
 mod awards;

@@ -1,18 +1,18 @@
 //! The majority clause.
 
 ghost use Rattle.std.specs.Prelude.{◌≡◌};
-ghost use Rattle.sl_compile_plans.specs.inner.Layout.{tree_of};
+ghost use Rattle.sl_compile_layout.specs.inner.Layout.{tree_of};
 ghost use Rattle.sl_blocks.specs.inner.Given.{given_of};
 ghost use Rattle.sl_blocks.specs.inner.LayoutParts.{refuse_in};
 
 use crate::blanks::{Block, GET_HELD, GET_WEIGHT, NO_MAJORITY};
 use crate::entries::NOTHING;
 use sl_code_instructions::Instr;
+use sl_compile_layout::Part::Fixed;
+use sl_compile_layout::{Cursor, Plan, Test};
 use sl_compile_pieces::Form;
 use sl_compile_pieces::registers::{AMOUNT, HELD, TOTAL, WEIGHT};
-use sl_compile_plans::Part::Fixed;
-use sl_compile_plans::{Cursor, Plan, Test};
-use sl_stages::Majority;
+use sl_law_meaning::Majority;
 
 /// Ends where the entry has more than half of the votes and no more than half of the seats.
 const REFUSE_ENTRY: &Plan<'static> = &Plan::Then(

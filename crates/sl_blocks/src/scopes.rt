@@ -1,7 +1,7 @@
 //! A block over all its scopes.
 
 ghost use Rattle.std.specs.Prelude.{◌≡◌, ◌+◌, ◌<◌, IfOk, OnErr, vec_len};
-ghost use Rattle.sl_compile_plans.specs.inner.Layout.{tree_of};
+ghost use Rattle.sl_compile_layout.specs.inner.Layout.{tree_of};
 ghost use Rattle.sl_compile_plans.specs.Trees.{size_of};
 ghost use Rattle.sl_blocks.specs.inner.Given.{given_of};
 ghost use Rattle.sl_blocks.specs.inner.Layout.{IsLaid};
@@ -9,11 +9,11 @@ ghost use Rattle.sl_blocks.specs.inner.LayoutParts.{all_with};
 
 use crate::blanks::{Block, GET_AMOUNT, OVER_LIMIT, ZERO_RESULT, given_of};
 use crate::entries::{NOTHING, each_scope};
+use sl_base_quotients::{MAX_SEATS, NoMemory};
 use sl_code_instructions::{Instr, MAX_INSTRS};
+use sl_compile_layout::Part::Fixed;
+use sl_compile_layout::{Plan, Test, lay};
 use sl_compile_pieces::registers::{AMOUNT, FIRST_PASSING};
-use sl_compile_plans::Part::Fixed;
-use sl_compile_plans::{Plan, Test, lay};
-use sl_ratio::{MAX_SEATS, NoMemory};
 
 /// Ends where there are more seats than a scope may have.
 const WITHIN_LIMIT: &Plan<'static> = &Plan::Then(

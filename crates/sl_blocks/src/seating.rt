@@ -10,12 +10,12 @@ ghost use Rattle.sl_blocks.specs.Facts.{HasFirstSlots};
 ghost use Rattle.sl_blocks.specs.PlanBlocks.{AreBlocks, HasRoom};
 
 use crate::facts::by_winner;
+use sl_base_quotients::NoMemory;
 use sl_code_instructions::{Input, Instr};
+use sl_compile_layout::Part::Fixed;
+use sl_compile_layout::{Cursor, Plan, Test, lay};
 use sl_compile_pieces::registers::OTHER;
 use sl_compile_pieces::slots::{ELIGIBLE, NAMES_LEFT};
-use sl_compile_plans::Part::Fixed;
-use sl_compile_plans::{Cursor, Plan, Test, lay};
-use sl_ratio::NoMemory;
 
 /// Every winner of an eligible party with a list in the Land sits on it, and every other one as a single.
 const PLACE_KEPT: &Plan<'static> = &Plan::Each(

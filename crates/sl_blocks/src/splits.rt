@@ -1,7 +1,7 @@
 //! The block of a split.
 
 ghost use Rattle.std.specs.Prelude.{◌≡◌, ◌+◌, ◌<◌, ◌≤◌, IfOk, OnErr, vec_len};
-ghost use Rattle.sl_compile_plans.specs.inner.Layout.{tree_of};
+ghost use Rattle.sl_compile_layout.specs.inner.Layout.{tree_of};
 ghost use Rattle.sl_compile_plans.specs.Trees.{size_of};
 ghost use Rattle.sl_blocks.specs.inner.Given.{given_of};
 ghost use Rattle.sl_blocks.specs.inner.Jobs.{IsSplitBlock, IsSplitJob, IsSplitPlan};
@@ -14,10 +14,10 @@ use crate::fills::{CLEAR_TABLE, fill_entries};
 use crate::form::form_of;
 use crate::job::Job;
 use crate::sums::{REFUSES_SEATS, lay_sums_with};
+use sl_base_quotients::{Method, NoMemory};
 use sl_code_instructions::{Instr, MAX_INSTRS};
-use sl_compile_plans::Plan;
-use sl_ratio::{Method, NoMemory};
-use sl_stages::Shape;
+use sl_compile_layout::Plan;
+use sl_law_meaning::Shape;
 
 /// Appends the block of a split by a method (docs/blocks.md, section 5), which leaves the entries' seats in the slot of the
 /// result, or ends the run with the split's fault. It is the plan of `sl_compile_pieces` after a declaration.

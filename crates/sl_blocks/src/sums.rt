@@ -1,7 +1,7 @@
 //! The sums of a scope, and the seats that are refused by them.
 
 ghost use Rattle.std.specs.Prelude.{◌≡◌, ◌+◌, ◌<◌, IfOk, OnErr, vec_len};
-ghost use Rattle.sl_compile_plans.specs.inner.Layout.{tree_of};
+ghost use Rattle.sl_compile_layout.specs.inner.Layout.{tree_of};
 ghost use Rattle.sl_compile_plans.specs.Trees.{size_of};
 ghost use Rattle.sl_blocks.specs.declared.blanks.Block.{Block as SpecBlock};
 ghost use Rattle.sl_blocks.specs.inner.Given.{given_of};
@@ -11,11 +11,11 @@ ghost use Rattle.sl_blocks.specs.inner.LayoutParts.{all_with, sum_entries, sums_
 use crate::blanks::{Block, GET_MINIMUM, GET_WEIGHT, NO_LIST, SHORT};
 use crate::entries::{NOTHING, by_party, each_entry};
 use crate::scopes::{START_SCOPE, lay_scopes};
+use sl_base_quotients::NoMemory;
 use sl_code_instructions::{Instr, MAX_INSTRS};
+use sl_compile_layout::Part::Fixed;
+use sl_compile_layout::{Cursor, Plan, Test};
 use sl_compile_pieces::registers::{AMOUNT, BASE, NEEDED, TOTAL, WEIGHT};
-use sl_compile_plans::Part::Fixed;
-use sl_compile_plans::{Cursor, Plan, Test};
-use sl_ratio::NoMemory;
 
 const CLEAR_SUMS: &Plan<'static> = &Plan::Line(&[
     Fixed(Instr::Set(TOTAL, 0)),

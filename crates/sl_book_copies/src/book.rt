@@ -1,12 +1,12 @@
 //! Copies of whole rulebooks.
 
 ghost use Rattle.std.specs.Prelude.{◌≡◌, IfOk, map};
-ghost use Rattle.sl_stages.specs.book.Books.{book_of};
-ghost use Rattle.sl_stages.specs.book.Trees.{stage_of};
+ghost use Rattle.sl_law_meaning.specs.book.Books.{book_of};
+ghost use Rattle.sl_law_meaning.specs.book.Trees.{stage_of};
 
 use crate::copies::{copy_stage, copy_word};
-use sl_ratio::NoMemory;
-use sl_stages::{Base, Book, LastClause, Stage};
+use sl_base_quotients::NoMemory;
+use sl_law_meaning::{Base, Book, LastClause, Stage};
 use std::alloc::Global;
 
 fn copy_stages(alloc: Global, stages: &[Stage]) -> Result<Vec<Stage>, NoMemory>

@@ -1,10 +1,10 @@
 //! Copies of the parts of a rulebook.
 
 ghost use Rattle.std.specs.Prelude.{◌≡◌, IfOk};
-ghost use Rattle.sl_stages.specs.book.Trees.{minima_tree, stage_of, tree_of};
+ghost use Rattle.sl_law_meaning.specs.book.Trees.{minima_tree, stage_of, tree_of};
 
-use sl_ratio::NoMemory;
-use sl_stages::{Expr, Stage, Word};
+use sl_base_quotients::NoMemory;
+use sl_law_meaning::{Expr, Stage, Word};
 use std::alloc::Global;
 
 pub fn copy_word(alloc: Global, word: &Word) -> Result<Word, NoMemory>

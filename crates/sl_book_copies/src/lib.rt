@@ -1,6 +1,6 @@
 //! Copies of rulebooks.
 //!
-//! Stands on `sl_stages`; used by the rooms explain and report. Proved: a copy has the tree of what it copies.
+//! Stands on `sl_law_meaning`; used by the rooms explain and report. Proved: a copy has the tree of what it copies.
 //!
 //! Where an error is `NoMemory` alone, memory ran out, and nothing else is wrong.
 #![tactic(auto)]

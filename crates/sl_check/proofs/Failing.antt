@@ -1,11 +1,11 @@
 -- The first test that fails, of an expression with several arguments.
 use Rattle.std.proofs.Common.{◌≡◌, List, ◌++◌, Some, None, Result, Ok, Err, refl, ◌∙◌, sym, ap, subst, append_assoc}
 use Rattle.std.specs.Option.{option_or}
-use Rattle.sl_stages.specs.declared.check_fault.CheckFault.{CheckFault}
-use Rattle.sl_stages.specs.declared.book.ColumnType.{ColumnType}
-use Rattle.sl_stages.specs.declared.book.Unit.TheVariants as unit
-use Rattle.sl_stages.specs.book.Trees.{ExprTree}
-use Rattle.sl_stages.specs.book.Typing.{Column, column, type_of, expr_tests}
+use Rattle.sl_law_meaning.specs.declared.check_fault.CheckFault.{CheckFault}
+use Rattle.sl_law_meaning.specs.declared.book.ColumnType.{ColumnType}
+use Rattle.sl_law_meaning.specs.declared.book.Unit.TheVariants as unit
+use Rattle.sl_law_meaning.specs.book.Trees.{ExprTree}
+use Rattle.sl_law_meaning.specs.book.Typing.{Column, column, type_of, expr_tests}
 use Rattle.sl_base_terms.proofs.Tests.{fails_in_row}
 use Rattle.sl_base_terms.specs.Tests.{Test, first_failing, Judges}
 

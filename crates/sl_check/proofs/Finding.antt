@@ -3,11 +3,11 @@ use Rattle.std.proofs.Common.{◌≡◌, ℕ, suc, zero, ◌<◌, ◌≤◌, ◌
 use Rattle.std.specs.Str.{bytes_eq}
 use Rattle.std.specs.Option.{ok_or}
 use Rattle.std.specs.List.{list_any}
-use Rattle.sl_stages.specs.declared.check_fault.CheckFault.TheVariants.{StageUnknown}
-use Rattle.sl_stages.specs.declared.book.Stage.{Stage}
-use Rattle.sl_stages.specs.declared.book.ColumnType.{ColumnType}
+use Rattle.sl_law_meaning.specs.declared.check_fault.CheckFault.TheVariants.{StageUnknown}
+use Rattle.sl_law_meaning.specs.declared.book.Stage.{Stage}
+use Rattle.sl_law_meaning.specs.declared.book.ColumnType.{ColumnType}
 use Rattle.sl_base_terms.specs.Tests.{test}
-use Rattle.sl_stages.specs.book.Typing.{Column, is_named, type_or_one}
+use Rattle.sl_law_meaning.specs.book.Typing.{Column, is_named, type_or_one}
 use Rattle.sl_check.specs.inner.Known.{columns}
 use Rattle.sl_base_terms.specs.Tests.{Judges}
 

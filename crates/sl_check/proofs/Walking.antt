@@ -3,12 +3,12 @@ use Rattle.std.proofs.Common.{◌≡◌, ℕ, zero, suc, ◌<◌, ◌≤◌, Lis
 use Rattle.std.proofs.Math.ListN.{set}
 use Rattle.std.proofs.Math.Seq.{drop-cons}
 use Rattle.std.specs.Option.{option_or}
-use Rattle.sl_stages.specs.declared.check_fault.CheckFault.{CheckFault}
-use Rattle.sl_stages.specs.declared.book.Stage.{Stage}
-use Rattle.sl_stages.specs.declared.book.ColumnType.{ColumnType}
-use Rattle.sl_stages.specs.book.Trees.{tree_of, stage_of}
+use Rattle.sl_law_meaning.specs.declared.check_fault.CheckFault.{CheckFault}
+use Rattle.sl_law_meaning.specs.declared.book.Stage.{Stage}
+use Rattle.sl_law_meaning.specs.declared.book.ColumnType.{ColumnType}
+use Rattle.sl_law_meaning.specs.book.Trees.{tree_of, stage_of}
 use Rattle.sl_base_terms.specs.Tests.{first_failing}
-use Rattle.sl_stages.specs.book.Typing.{Column, stage_column, columns_of, type_of, stage_tests, stages_tests}
+use Rattle.sl_law_meaning.specs.book.Typing.{Column, stage_column, columns_of, type_of, stage_tests, stages_tests}
 use Rattle.sl_check.specs.inner.Known.{columns}
 use Rattle.sl_base_terms.proofs.Tests.{fails_in_row}
 

@@ -4,11 +4,11 @@ use Rattle.std.specs.List.{list_all}
 use Rattle.std.specs.Cmp.{first_so, second_so}
 use Rattle.std.proofs.lemmas.Bool.{leb-true}
 use Rattle.std.proofs.lemmas.List.{length-map}
-use Rattle.sl_stages.specs.declared.limits.TheConstants.{MAX_PARTS}
+use Rattle.sl_law_meaning.specs.declared.limits.TheConstants.{MAX_PARTS}
 use Rattle.sl_base_terms.specs.declared.limits.TheConstants.{MAX_STAGES}
-use Rattle.sl_stages.specs.declared.book.Stage.{Stage}
-use Rattle.sl_stages.specs.book.Trees.{tree_of, stage_of}
-use Rattle.sl_stages.specs.book.Limits.{parts_of, is_within_stage, is_within_limits}
+use Rattle.sl_law_meaning.specs.declared.book.Stage.{Stage}
+use Rattle.sl_law_meaning.specs.book.Trees.{tree_of, stage_of}
+use Rattle.sl_law_meaning.specs.book.Limits.{parts_of, is_within_stage, is_within_limits}
 
 parts_each : (ss : List Stage) (i : ℕ) (s : Stage) → list_all is_within_stage (map stage_of ss) ≡ true → i < length ss → s ≡ get_or ss i s
     → parts_of (tree_of s.expr) ≤ MAX_PARTS

@@ -1,8 +1,8 @@
 -- Among which entries seats are distributed, and a lot decides (docs/language.md, section 2).
 use Rattle.std.specs.Prelude.{List, None, Option, Some}
 use Rattle.std.specs.Option.{option_or}
-use Rattle.sl_stages.specs.book.Trees.{ExprTree, fact, grow, name, pair, split, sum}
-use Rattle.sl_stages.specs.book.Typing.{Column, type_of}
+use Rattle.sl_law_meaning.specs.book.Trees.{ExprTree, fact, grow, name, pair, split, sum}
+use Rattle.sl_law_meaning.specs.book.Typing.{Column, type_of}
 use Rattle.sl_base_terms.specs.declared.shape.Shape.{Shape}
 
 -- the shape of the votes by which the split or the growth in an expression distributes seats, if it has one

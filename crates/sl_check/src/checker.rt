@@ -1,14 +1,14 @@
 //! The whole of a rulebook.
 
 ghost use Rattle.std.specs.Prelude.{◌≡◌, [], ◌∷◌, Some, IfOk, IfErr, IsTrue, IsOk, ◌↔◌};
-ghost use Rattle.sl_stages.specs.book.Books.{book_of};
-ghost use Rattle.sl_stages.specs.book.Typing.{version_tests, condition_tests, tests_of, check_fault, is_typed};
+ghost use Rattle.sl_law_meaning.specs.book.Books.{book_of};
+ghost use Rattle.sl_law_meaning.specs.book.Typing.{version_tests, condition_tests, tests_of, check_fault, is_typed};
 ghost use Rattle.sl_base_terms.specs.Tests.{Judges};
 
 use crate::columns::Columns;
 use crate::nodes::{is_seat_number, test};
 use crate::stages::stage_types;
-use sl_stages::{Book, CheckFault, CheckedBook, Cond, MAX_PER, Number};
+use sl_law_meaning::{Book, CheckFault, CheckedBook, Cond, MAX_PER, Number};
 
 /// Refuses versions but 1 and 2, and `vacate` in version 1.
 fn check_version(version: Number, vacate: Option<usize>) -> Result<(), CheckFault>

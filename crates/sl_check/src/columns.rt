@@ -2,13 +2,13 @@
 
 ghost use Rattle.std.specs.Prelude.{◌≡◌, ◌≤◌, find, option_map, length, ◌++◌};
 ghost use Rattle.std.specs.List.{list_any};
-ghost use Rattle.sl_stages.specs.book.Typing.{is_named, type_or_one, name_tests, expr_tests, type_of};
-ghost use Rattle.sl_stages.specs.book.Trees.{tree_of};
+ghost use Rattle.sl_law_meaning.specs.book.Typing.{is_named, type_or_one, name_tests, expr_tests, type_of};
+ghost use Rattle.sl_law_meaning.specs.book.Trees.{tree_of};
 ghost use Rattle.sl_base_terms.specs.Tests.{Judges};
 ghost use Rattle.sl_check.specs.inner.Known.{columns};
 
 use crate::nodes::{grow_type, pair_type, split_from_type, split_type, sum_type};
-use sl_stages::{CheckFault, ColumnType, Expr, Stage, Word};
+use sl_law_meaning::{CheckFault, ColumnType, Expr, Stage, Word};
 
 /// The stages before some place of a book, and what the column of each has.
 #[derive(Clone, Copy)]
@@ -44,7 +44,7 @@ impl<'a> Columns<'a> {
     }
 
     /// Whether a stage has that name.
-    #[tactic(auto, using(sl_stages::proofs::typing::TypedExpressions::is_found))]
+    #[tactic(auto, using(sl_law_meaning::proofs::typing::TypedExpressions::is_found))]
     pub fn has(&self, name: &Word) -> bool
         ensures { let known = columns self.now.stages.now self.now.types.now
             in result ≡ list_any (is_named name.now) known }

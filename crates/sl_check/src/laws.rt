@@ -1,3 +1,3 @@
 //! What the definition of well-formed rulebooks implies.
 
-pub use sl_stages::laws::book::typed_expressions;
+pub use sl_law_meaning::laws::book::typed_expressions;

@@ -1,6 +1,6 @@
 //! The checker of rulebooks: which of them are well formed, and what is wrong with any other.
 //!
-//! Stands on `sl_stages`; used by the rooms count, explain and report. Proved: a rulebook is typed, or the fault is that of the first test that
+//! Stands on `sl_law_meaning`; used by the rooms count, explain and report. Proved: a rulebook is typed, or the fault is that of the first test that
 //! fails.
 #![tactic(auto)]
 
@@ -15,4 +15,4 @@ mod stages;
 pub use checker::check;
 pub use columns::Columns;
 pub use shapes::types_of;
-pub use sl_stages::{CheckFault, CheckedBook};
+pub use sl_law_meaning::{CheckFault, CheckedBook};

@@ -2,13 +2,13 @@
 
 ghost use Rattle.std.specs.Prelude.{◌≡◌, ◌&&◌, [], ◌∷◌};
 ghost use Rattle.sl_base_terms.specs.declared.shape.Shape.TheVariants as shape;
-ghost use Rattle.sl_stages.specs.declared.book.Unit.TheVariants as unit;
+ghost use Rattle.sl_law_meaning.specs.declared.book.Unit.TheVariants as unit;
 ghost use Rattle.sl_base_terms.specs.Tests.{test, Judges};
-ghost use Rattle.sl_stages.specs.book.Typing.{column, same_unit, shape_over, can_sum, can_split, is_hamilton, is_prefer, is_seat_number, sum_tests, pair_tests, share_from_tests, split_tests, split_from_tests, grow_tests};
+ghost use Rattle.sl_law_meaning.specs.book.Typing.{column, same_unit, shape_over, can_sum, can_split, is_hamilton, is_prefer, is_seat_number, sum_tests, pair_tests, share_from_tests, split_tests, split_from_tests, grow_tests};
 ghost use Rattle.sl_base_terms.specs.Shapes.{same_shape};
 
-use sl_ratio::Method;
-use sl_stages::{Axis, CheckFault, ColumnType, MAX_SEATS, Majority, Number, Shape, Unit};
+use sl_base_quotients::Method;
+use sl_law_meaning::{Axis, CheckFault, ColumnType, MAX_SEATS, Majority, Number, Shape, Unit};
 
 /// Refuses with a fault what fails a test.
 pub fn test(holds: bool, otherwise: CheckFault) -> Result<(), CheckFault>

@@ -1,11 +1,11 @@
 //! How many splits and growths an expression has.
 
 ghost use Rattle.std.specs.Prelude.{◌≡◌, ◌≤◌};
-ghost use Rattle.sl_stages.specs.book.Trees.{tree_of};
-ghost use Rattle.sl_stages.specs.book.Limits.{parts_of};
-ghost use Rattle.sl_stages.specs.book.Typing.{splits_in};
+ghost use Rattle.sl_law_meaning.specs.book.Trees.{tree_of};
+ghost use Rattle.sl_law_meaning.specs.book.Limits.{parts_of};
+ghost use Rattle.sl_law_meaning.specs.book.Typing.{splits_in};
 
-use sl_stages::{Expr, MAX_PARTS};
+use sl_law_meaning::{Expr, MAX_PARTS};
 
 /// The number of splits and growths in an expression.
 pub fn splits_in(expr: &Expr) -> u32

@@ -3,11 +3,11 @@
 ghost use Rattle.std.specs.Prelude.{◌≡◌, ◌≤◌, [], length, map};
 ghost use Rattle.sl_check.specs.Drawn.{given_shape};
 ghost use Rattle.sl_check.specs.inner.Known.{columns};
-ghost use Rattle.sl_stages.specs.book.Trees.{stage_of, tree_of};
-ghost use Rattle.sl_stages.specs.book.Typing.{columns_of, type_of};
+ghost use Rattle.sl_law_meaning.specs.book.Trees.{stage_of, tree_of};
+ghost use Rattle.sl_law_meaning.specs.book.Typing.{columns_of, type_of};
 
 use crate::columns::Columns;
-use sl_stages::{ColumnType, Expr, MAX_STAGES, Shape, Stage};
+use sl_law_meaning::{ColumnType, Expr, MAX_STAGES, Shape, Stage};
 
 impl Columns<'_> {
     /// The type of an expression whose tests hold.

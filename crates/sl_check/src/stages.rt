@@ -1,16 +1,16 @@
 //! The stages of a rulebook, and the base of its last clause.
 
 ghost use Rattle.std.specs.Prelude.{◌≡◌, ◌≤◌, [], map, Some, None, MatchResult, IsTrue};
-ghost use Rattle.sl_stages.specs.book.Trees.{tree_of, stage_of};
-ghost use Rattle.sl_stages.specs.book.Limits.{parts_of, is_within_limits};
+ghost use Rattle.sl_law_meaning.specs.book.Trees.{tree_of, stage_of};
+ghost use Rattle.sl_law_meaning.specs.book.Limits.{parts_of, is_within_limits};
 ghost use Rattle.sl_base_terms.specs.Tests.{first_failing, Judges};
-ghost use Rattle.sl_stages.specs.book.Typing.{type_of, stage_tests, stages_tests, columns_of, base_tests};
+ghost use Rattle.sl_law_meaning.specs.book.Typing.{type_of, stage_tests, stages_tests, columns_of, base_tests};
 ghost use Rattle.sl_check.specs.inner.Known.{columns};
 
 use crate::columns::Columns;
 use crate::nodes::{same_shape, same_unit, test};
 use crate::parts::splits_in;
-use sl_stages::{
+use sl_law_meaning::{
     Base, CheckFault, ColumnType, LastClause, MAX_PARTS, MAX_STAGES, Shape, Stage, Unit,
 };
 

@@ -4,7 +4,7 @@ use Rattle.std.specs.List.{All, list_all}
 use Rattle.std.proofs.lemmas.Bool.{and_parts, and_from, eqb-true, false≢true, leb-true}
 use Rattle.std.proofs.lemmas.Bool.Decides.{leb_tells}
 use Rattle.std.proofs.lemmas.List.Concat.{flat_map_single}
-use Rattle.sl_ratio.specs.declared.names.TheConstants.{MAX_NAME_BYTES}
+use Rattle.sl_base_quotients.specs.declared.spelling.TheConstants.{MAX_NAME_BYTES}
 use Rattle.sl_base_terms.specs.declared.shape.TheConstants.{SHAPES}
 use Rattle.sl_base_terms.specs.declared.shape.Shape.{Shape}
 use Rattle.sl_base_terms.specs.declared.shape.Shape.TheVariants as shapes

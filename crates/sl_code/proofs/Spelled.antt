@@ -9,9 +9,9 @@ use Rattle.std.proofs.lemmas.List.Elements.{All-tail}
 use Rattle.std.proofs.lemmas.List.FromFn.{get_or-range_with_len}
 use Rattle.std.proofs.lemmas.List.{length-replicate}
 use Rattle.std.proofs.lemmas.Nat.{le_bytes_2, le_bytes_4, le_bytes_8}
-use Rattle.sl_ratio.specs.declared.method.TheConstants.{DIVISORS}
-use Rattle.sl_ratio.specs.declared.method.Divisor.TheVariants as divisors
-use Rattle.sl_ratio.specs.Quotient.{method_number}
+use Rattle.sl_base_quotients.specs.declared.method.TheConstants.{DIVISORS}
+use Rattle.sl_base_quotients.specs.declared.method.Divisor.TheVariants as divisors
+use Rattle.sl_base_quotients.specs.Quotient.{method_number}
 use Rattle.sl_code.specs.declared.fault.Cause.TheVariants as causes
 use Rattle.sl_code.specs.declared.fault.Stop.{Stop}
 use Rattle.sl_code_instructions.specs.declared.instr.Instr.{Instr}

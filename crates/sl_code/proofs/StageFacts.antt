@@ -2,7 +2,7 @@
 use Rattle.std.proofs.Common.{◌≡◌, ℕ, ◌&&◌, List, [], ◌∷◌, ◌++◌, length, IsTrue, nat_lt, nat_le, refl, sym, subst, ◌∙◌, arith, rules, tests, length-append}
 use Rattle.std.specs.List.{list_all}
 use Rattle.std.proofs.lemmas.Bool.{and_parts, and_from, false≢true}
-use Rattle.sl_ratio.specs.declared.names.TheConstants.{MAX_NAME_BYTES}
+use Rattle.sl_base_quotients.specs.declared.spelling.TheConstants.{MAX_NAME_BYTES}
 use Rattle.sl_base_terms.specs.declared.shape.Shape.{Shape}
 use Rattle.sl_base_terms.specs.declared.shape.Shape.TheVariants as shapes
 use Rattle.sl_base_terms.specs.Words.{is_letter, is_word}

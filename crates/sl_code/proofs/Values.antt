@@ -1,8 +1,8 @@
 -- An instruction is known by its operation and the numbers of its operands.
 use Rattle.std.proofs.Common.{◌≡◌, ℕ, ◌+◌, ◌*◌, Bool, true, false, List, [], ◌∷◌, map, flat_map, find, get_or, unwrap_or, nat_eq, IsTrue, Option, Some, None, refl, sym, ap, ◌∙◌}
-use Rattle.sl_ratio.specs.declared.method.TheConstants.{DIVISORS}
-use Rattle.sl_ratio.specs.declared.method.Divisor.{Divisor}
-use Rattle.sl_ratio.specs.declared.method.Divisor.TheVariants as divisors
+use Rattle.sl_base_quotients.specs.declared.method.TheConstants.{DIVISORS}
+use Rattle.sl_base_quotients.specs.declared.method.Divisor.{Divisor}
+use Rattle.sl_base_quotients.specs.declared.method.Divisor.TheVariants as divisors
 use Rattle.sl_code_instructions.specs.declared.instr.Instr.{Instr}
 use Rattle.sl_code_instructions.specs.declared.instr.Instr.TheVariants.{Set, Mov, Add, Sub, Mul, Div, Rem, Max, Jmp, Jz, Jlt, Jnl, Get, Store, Zero, Input, House, Wparty, Wland, Fparty, Nparty, Fland, Nland, Fwin, Nwin, Table, Prio, Rest, Lead, Share, Peers, Take, Lot, Takelot, Emit, Given, Fault, Tie, Seat, Single, Halt, At, Haltv, Weigh}
 use Rattle.sl_code_instructions.specs.declared.kinds.Cursors.{Cursors}
@@ -20,7 +20,7 @@ use Rattle.sl_code_instructions.specs.declared.operand.Rounding.{Rounding}
 use Rattle.sl_code_instructions.specs.declared.operand.Rounding.TheVariants as roundings
 use Rattle.sl_code_instructions.specs.declared.operand.ScopeKind.{ScopeKind}
 use Rattle.sl_code_instructions.specs.declared.operand.ScopeKind.TheVariants as scopes
-use Rattle.sl_ratio.specs.Quotient.{method_number}
+use Rattle.sl_base_quotients.specs.Quotient.{method_number}
 use Rattle.sl_code_instructions.specs.Numbers.{scope_number, entries_number, ranking_number, input_number, rounding_number, fault_number, cursors_number, table_number, flag}
 use Rattle.sl_code_instructions.specs.Rows.{opcode_of, operands_of}
 use Rattle.sl_code.specs.Operands.{is_below, is_scope, is_entries, is_ranking, is_input, is_method, is_rounding, is_end_fault}

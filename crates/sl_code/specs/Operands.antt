@@ -2,13 +2,13 @@
 use Rattle.std.specs.Prelude.{ℕ, Bool, true, List, [], ◌∷◌, nat_eq, nat_lt}
 use Rattle.std.specs.List.{list_any}
 use Rattle.std.specs.Int.{w16, w32, w64, to_le_bytes}
-use Rattle.sl_ratio.specs.declared.method.TheConstants.{DIVISORS}
+use Rattle.sl_base_quotients.specs.declared.method.TheConstants.{DIVISORS}
 use Rattle.sl_base_terms.specs.declared.shape.TheConstants.{SHAPES}
 use Rattle.sl_base_terms.specs.Shapes.{shape_number}
 use Rattle.sl_code_instructions.specs.declared.operand.TheConstants.{ENTRY_KINDS, RANKINGS, SCOPE_KINDS, INPUTS, END_FAULTS, ROUNDINGS}
 use Rattle.sl_code_instructions.specs.declared.parts.Operand.{Operand}
 use Rattle.sl_code_instructions.specs.declared.parts.Operand.TheVariants as o
-use Rattle.sl_ratio.specs.Quotient.{method_number}
+use Rattle.sl_base_quotients.specs.Quotient.{method_number}
 use Rattle.sl_code_instructions.specs.Numbers.{value_of, scope_number, entries_number, ranking_number, input_number, rounding_number, fault_number}
 
 -- a number in 2, 4 or 8 bytes, least first

@@ -3,7 +3,7 @@
 ghost use Rattle.std.specs.Prelude.{◌≡◌, [], ◌∷◌, ◌++◌, OnOk};
 ghost use Rattle.sl_code.specs.Operands.{two_bytes, four_bytes, eight_bytes};
 
-use sl_ratio::NoMemory;
+use sl_base_quotients::NoMemory;
 
 /// Adds a byte at the end.
 pub(crate) fn push(bytes: &mut Vec<u8>, byte: u8) -> Result<(), NoMemory>

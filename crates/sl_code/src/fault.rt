@@ -3,7 +3,7 @@
 ghost use Rattle.std.specs.Prelude.{◌≡◌};
 ghost use Rattle.sl_code.specs.declared.fault.Refusal.TheVariants as refusals;
 
-use sl_ratio::NoMemory;
+use sl_base_quotients::NoMemory;
 use std::alloc::AllocFailed;
 use std::error::Error;
 use std::fmt;

@@ -13,9 +13,9 @@ ghost use Rattle.sl_code.specs.Reading.{FailsAhead, IsReading, Refuses, IsName};
 
 use crate::fault::{Cause, CodeFault, Refusal, Stop};
 use crate::reader::Reader;
+use sl_base_quotients::MAX_NAME_BYTES;
 use sl_code_instructions::{Code, CodeStage, Instr, MAX_INSTRS, MAX_SLOTS};
-use sl_ratio::MAX_NAME_BYTES;
-use sl_stages::{MAX_STAGES, Shape, Word};
+use sl_law_meaning::{MAX_STAGES, Shape, Word};
 use std::alloc::Global;
 
 impl<'a> Reader<'a> {

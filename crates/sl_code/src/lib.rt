@@ -1,7 +1,7 @@
 //! Code files: the spelling of counting code in bytes, and its listing.
 //!
-//! Stands on `sl_code_instructions` and `sl_stages`; used by the rooms count, explain and test. Proved: bytes spell one code or have one fault, and a
-//! code has one spelling.
+//! Stands on `sl_code_instructions` and `sl_law_meaning`; used by the rooms count, explain and test. Proved: bytes spell one code or have one fault,
+//! and a code has one spelling.
 //!
 //! Where an error is `NoMemory` alone, memory ran out, and nothing else is wrong.
 #![tactic(auto)]

@@ -5,8 +5,8 @@ ghost use Rattle.std.specs.Fmt.{decimal};
 ghost use Rattle.sl_code.specs.Listing.{operand_word, line_of, listing_of};
 
 use crate::append::{extend, push};
+use sl_base_quotients::NoMemory;
 use sl_code_instructions::{Code, Instr, Operand};
-use sl_ratio::NoMemory;
 use std::alloc::Global;
 
 /// The listing of a code: a line for each instruction, with its number, its name and its operands (docs/code.md, section 3).

@@ -1,17 +1,17 @@
 //! The values of operands and slots by their numbers (docs/code.md, section 2).
 
 ghost use Rattle.std.specs.Prelude.{◌≡◌, ℕ, Bool, false, MatchOption};
-ghost use Rattle.sl_ratio.specs.Quotient.{method_number};
+ghost use Rattle.sl_base_quotients.specs.Quotient.{method_number};
 ghost use Rattle.sl_base_terms.specs.Shapes.{shape_number};
 ghost use Rattle.sl_code_instructions.specs.Numbers.{scope_number, entries_number, ranking_number, input_number, rounding_number, fault_number, cursors_number, table_number};
 ghost use Rattle.sl_code.specs.Operands.{is_below, is_scope, is_entries, is_ranking, is_input, is_method, is_rounding, is_end_fault, is_shape};
 
+use sl_base_quotients::{DIVISORS, Divisor};
 use sl_code_instructions::{
     Cursors, END_FAULTS, ENTRY_KINDS, EndFault, Entries, INPUTS, Input, RANKINGS, Ranking,
     Rounding, SCOPE_KINDS, ScopeKind, TableState,
 };
-use sl_ratio::{DIVISORS, Divisor};
-use sl_stages::{SHAPES, Shape};
+use sl_law_meaning::{SHAPES, Shape};
 
 /// A value of an operand or a slot that is spelled by its number, in one byte.
 pub(crate) trait FromNumber: Copy {

@@ -5,9 +5,9 @@ ghost use Rattle.sl_code.specs.Operands.{bytes_of};
 ghost use Rattle.sl_code.specs.Spelling.{instr_bytes, stage_bytes, stages_part, slots_part, instrs_part, spelling_of};
 
 use crate::append::{extend, extend_eight, extend_four, extend_two, push};
+use sl_base_quotients::NoMemory;
 use sl_code_instructions::{Code, CodeStage, Instr, Operand, TableState};
-use sl_ratio::NoMemory;
-use sl_stages::Shape;
+use sl_law_meaning::Shape;
 use std::alloc::Global;
 
 /// The letters and the version that each file begins with.

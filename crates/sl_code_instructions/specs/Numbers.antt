@@ -1,8 +1,8 @@
 -- The numbers by which operands of a few values are spelled (docs/code.md, section 2).
 use Rattle.std.specs.Prelude.{ℕ, ◌+◌, ◌*◌, Bool, true, false, Option, Some, None}
-use Rattle.sl_ratio.specs.declared.method.Divisor.{Divisor}
-use Rattle.sl_ratio.specs.declared.method.Divisor.TheVariants as divisors
-use Rattle.sl_ratio.specs.Quotient.{method_number}
+use Rattle.sl_base_quotients.specs.declared.method.Divisor.{Divisor}
+use Rattle.sl_base_quotients.specs.declared.method.Divisor.TheVariants as divisors
+use Rattle.sl_base_quotients.specs.Quotient.{method_number}
 use Rattle.sl_code_instructions.specs.declared.kinds.Cursors.{Cursors}
 use Rattle.sl_code_instructions.specs.declared.kinds.TableState.{TableState}
 use Rattle.sl_code_instructions.specs.declared.operand.EndFault.{EndFault}

@@ -2,7 +2,7 @@
 
 use crate::kinds::Kinds;
 use crate::operand::{EndFault, Entries, Input, Ranking, Rounding, ScopeKind};
-use sl_ratio::Divisor;
+use sl_base_quotients::Divisor;
 
 /// An instruction (docs/code.md, section 2), with its operands in order: `r` and `s` are registers, `k` and `v` slots, `t` the place of an
 /// instruction, `n` a stage (255 is the last clause), `c` a scope. Which of them there are, the verifier decides.

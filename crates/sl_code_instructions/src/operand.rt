@@ -4,7 +4,7 @@
 ghost use Rattle.std.specs.Prelude.{◌≡◌};
 ghost use Rattle.sl_code_instructions.specs.Numbers.{divisor_of, rounding_of};
 
-use sl_ratio::Divisor;
+use sl_base_quotients::Divisor;
 
 /// What the entries of the priority table are.
 #[derive(Clone, Copy)]

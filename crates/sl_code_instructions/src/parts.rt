@@ -5,7 +5,7 @@ ghost use Rattle.sl_code_instructions.specs.Numbers.{value_of};
 
 use crate::kinds::{Cursors, Registers, TableState};
 use crate::operand::{EndFault, Entries, Input, Ranking, Rounding, ScopeKind};
-use sl_ratio::Divisor;
+use sl_base_quotients::Divisor;
 use std::marker::Model;
 
 /// An operand of an instruction.

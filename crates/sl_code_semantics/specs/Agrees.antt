@@ -1,6 +1,6 @@
 -- When a state is one of which the verifier's kinds are known, and when a run may reach it (docs/machine.md, section 5).
 use Rattle.std.specs.Prelude.{◌≡◌, ◌≢◌, ℕ, ◌<◌, IsTrue, IsSome, [], length, Option, Some, None, slice_get, ⊤}
-use Rattle.sl_stages.specs.returns.Election.{Election, IsElection}
+use Rattle.sl_law_meaning.specs.returns.Election.{Election, IsElection}
 use Rattle.sl_code_instructions.specs.declared.instr.Instr.{Instr}
 use Rattle.sl_code_instructions.specs.declared.kinds.Registers.{Registers}
 use Rattle.sl_code_instructions.specs.declared.kinds.Cursors.{Cursors}

@@ -1,21 +1,21 @@
 -- What each instruction does to a state, wherever it stands in the code (docs/machine.md, section 2).
 use Rattle.std.specs.Prelude.{ℕ, zero, suc, ◌+◌, ◌-◌, ◌*◌, ◌/◌, ◌%◌, ◌^◌, Bool, true, false, min, max, List, [], ◌∷◌, ◌++◌, Option, Some, None, ◌==◌, nat_lt, codes, length, map, slice_get, slice_index, slice_index_or, if◌then◌else◌}
 use Rattle.std.specs.Option.{option_map, option_and_then}
-use Rattle.sl_ratio.specs.declared.entry.Entry.{Entry}
-use Rattle.sl_ratio.specs.declared.limits.TheConstants.{MAX_WEIGHT, MAX_SEATS}
-use Rattle.sl_ratio.specs.Quotient.{Quotient, quotient}
-use Rattle.sl_stages.specs.declared.fault.FaultKind.{FaultKind}
-use Rattle.sl_stages.specs.declared.fault.FaultKind.TheVariants as fault
-use Rattle.sl_stages.specs.declared.fault.Scope.{Scope}
-use Rattle.sl_stages.specs.declared.returns.ListVotes.{ListVotes}
-use Rattle.sl_stages.specs.declared.returns.Win.{Win}
-use Rattle.sl_stages.specs.declared.table.Mark.{Mark}
-use Rattle.sl_stages.specs.declared.table.Mark.TheVariants as mark
-use Rattle.sl_stages.specs.declared.table.Placed.TheVariants as placed
-use Rattle.sl_stages.specs.declared.table.SeatStep.{SeatStep}
-use Rattle.sl_stages.specs.declared.table.Weight.{Weight}
-use Rattle.sl_stages.specs.returns.Election.{Election, lands_of, parties_of, wins_of, list_at, has_list}
-use Rattle.sl_stages.specs.returns.Votes.{valid_in, counted_in, slate_in}
+use Rattle.sl_base_quotients.specs.declared.entry.Entry.{Entry}
+use Rattle.sl_base_quotients.specs.declared.limits.TheConstants.{MAX_WEIGHT, MAX_SEATS}
+use Rattle.sl_base_quotients.specs.Quotient.{Quotient, quotient}
+use Rattle.sl_law_meaning.specs.declared.fault.FaultKind.{FaultKind}
+use Rattle.sl_law_meaning.specs.declared.fault.FaultKind.TheVariants as fault
+use Rattle.sl_law_meaning.specs.declared.fault.Scope.{Scope}
+use Rattle.sl_law_meaning.specs.declared.election.ListVotes.{ListVotes}
+use Rattle.sl_law_meaning.specs.declared.election.Win.{Win}
+use Rattle.sl_law_meaning.specs.declared.table.Mark.{Mark}
+use Rattle.sl_law_meaning.specs.declared.table.Mark.TheVariants as mark
+use Rattle.sl_law_meaning.specs.declared.table.Placed.TheVariants as placed
+use Rattle.sl_law_meaning.specs.declared.table.SeatStep.{SeatStep}
+use Rattle.sl_law_meaning.specs.declared.table.Weight.{Weight}
+use Rattle.sl_law_meaning.specs.returns.Election.{Election, lands_of, parties_of, wins_of, list_at, has_list}
+use Rattle.sl_law_meaning.specs.returns.Votes.{valid_in, counted_in, slate_in}
 use Rattle.sl_code_instructions.specs.declared.code.CodeStage.{CodeStage}
 use Rattle.sl_code_instructions.specs.declared.instr.Instr.{Instr}
 use Rattle.sl_code_instructions.specs.declared.instr.Instr.TheVariants as instr
@@ -33,10 +33,10 @@ use Rattle.sl_code_semantics.specs.declared.known.TheConstants.{LAST_CLAUSE}
 use Rattle.sl_code_semantics.specs.Kinds.{same_ranking}
 use Rattle.sl_code_semantics.specs.State.{State, PriorityTable, End, Halted, Faulted, with_register, with_column, with_cell, with_place}
 use Rattle.sl_code_semantics.specs.Places.{both, cell_at, index_at, item_of, at_entry, scope_at}
-use Rattle.sl_prio.specs.Prio.{top, peers, is_covered}
-use Rattle.sl_prio.specs.Lot.{drawn}
-use Rattle.sl_prio.specs.Ranking.{insert_ranked}
-use Rattle.sl_prio.specs.Ranking.{without}
+use Rattle.sl_base_rankings.specs.Peers.{top, peers, is_covered}
+use Rattle.sl_base_rankings.specs.Lot.{drawn}
+use Rattle.sl_base_rankings.specs.Ranking.{insert_ranked}
+use Rattle.sl_base_rankings.specs.Ranking.{without}
 use Rattle.sl_code_semantics.specs.Drawn.{lot_of}
 
 -- the machine goes on after the instruction, or at its target, or the run ends, or no case applies

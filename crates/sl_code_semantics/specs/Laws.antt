@@ -1,6 +1,6 @@
 -- The laws of the definitions, each of them the contract of a function of `laws`.
 use Rattle.std.specs.Prelude.{◌≡◌, ◌≢◌, ℕ, ◌+◌, Some, IsTrue, slice_get}
-use Rattle.sl_stages.specs.returns.Election.{Election, IsElection}
+use Rattle.sl_law_meaning.specs.returns.Election.{Election, IsElection}
 use Rattle.sl_code_instructions.specs.declared.instr.Instr.{Instr}
 use Rattle.sl_code_instructions.specs.Codes.{CountingCode}
 use Rattle.sl_code_semantics.specs.Needs.{has_columns}

@@ -1,7 +1,7 @@
 -- What keeps a step from being stuck (docs/machine.md, section 5).
 use Rattle.std.specs.Prelude.{◌≢◌, ℕ, ◌*◌, ◌<◌, IsTrue, All}
 use Rattle.std.specs.Option.{ForSome}
-use Rattle.sl_stages.specs.returns.Election.{Election, lands_of, parties_of, wins_of}
+use Rattle.sl_law_meaning.specs.returns.Election.{Election, lands_of, parties_of, wins_of}
 use Rattle.sl_code_instructions.specs.declared.instr.Instr.{Instr}
 use Rattle.sl_code_instructions.specs.declared.operand.Entries.{Entries}
 use Rattle.sl_code_instructions.specs.declared.operand.Entries.TheVariants as entries

@@ -2,18 +2,18 @@
 -- counts them by their numbers among the entries of a scope (docs/machine.md, section 3).
 use Rattle.std.specs.Prelude.{◌≡◌, ◌<◌, ◌↔◌, ℕ, List, length, map, filter_map, slice_index, All, Contains, Some, IsTrue}
 use Rattle.std.specs.List.Sorted.{IsStrictlyIncreasing}
-use Rattle.sl_ratio.specs.declared.entry.Entry.{Entry}
-use Rattle.sl_prio.specs.Lot.{place_in_lot}
-use Rattle.sl_prio.specs.Lot as machine
-use Rattle.sl_prio.specs.Prio.{peers, is_covered}
+use Rattle.sl_base_quotients.specs.declared.entry.Entry.{Entry}
+use Rattle.sl_base_rankings.specs.Lot.{place_in_lot}
+use Rattle.sl_base_rankings.specs.Lot as machine
+use Rattle.sl_base_rankings.specs.Peers.{peers, is_covered}
 use Rattle.sl_base_terms.specs.declared.shape.Shape.TheVariants as shape
-use Rattle.sl_stages.specs.declared.fault.Item.{Item}
-use Rattle.sl_stages.specs.returns.Election.{Election, IsElection}
-use Rattle.sl_stages.specs.meaning.Scopes.{place}
-use Rattle.sl_stages.specs.meaning.Lots.{lots_named, given_winner, lot_among, stage_lot}
-use Rattle.sl_stages.specs.methods.Ties.{Distinct, NamesAll}
-use Rattle.sl_stages.specs.methods.Ties as meaning
-use Rattle.sl_stages.specs.laws.Awards.{DrawsNext}
+use Rattle.sl_law_meaning.specs.declared.fault.Item.{Item}
+use Rattle.sl_law_meaning.specs.returns.Election.{Election, IsElection}
+use Rattle.sl_law_meaning.specs.meaning.Scopes.{place}
+use Rattle.sl_law_meaning.specs.meaning.Lots.{lots_named, given_winner, lot_among, stage_lot}
+use Rattle.sl_law_meaning.specs.methods.Ties.{Distinct, NamesAll}
+use Rattle.sl_law_meaning.specs.methods.Ties as meaning
+use Rattle.sl_law_meaning.specs.laws.Awards.{DrawsNext}
 use Rattle.sl_code_instructions.specs.declared.operand.Entries.{Entries}
 use Rattle.sl_code_instructions.specs.declared.operand.Entries.TheVariants as entries
 use Rattle.sl_code_semantics.specs.Places.{item_of}

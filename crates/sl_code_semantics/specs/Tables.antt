@@ -1,10 +1,10 @@
 -- The seat table that stands in what a run answers (docs/machine.md, section 1).
 use Rattle.std.specs.Prelude.{ℕ}
-use Rattle.sl_stages.specs.declared.table.ListSeats.{ListSeats}
-use Rattle.sl_stages.specs.returns.Election.{Election}
-use Rattle.sl_stages.specs.returns.Facts.{each_list, list_cell}
-use Rattle.sl_stages.specs.meaning.Seating.{placed_on}
-use Rattle.sl_stages.specs.meaning.Tables.{SeatTable}
+use Rattle.sl_law_meaning.specs.declared.table.ListSeats.{ListSeats}
+use Rattle.sl_law_meaning.specs.returns.Election.{Election}
+use Rattle.sl_law_meaning.specs.returns.Facts.{each_list, list_cell}
+use Rattle.sl_law_meaning.specs.meaning.Seating.{placed_on}
+use Rattle.sl_law_meaning.specs.meaning.Tables.{SeatTable}
 use Rattle.sl_code_semantics.specs.Memories.{Held}
 
 -- a list has the seats and the vacant seats of its cells, and the winners who are placed on it

@@ -1,7 +1,7 @@
 //! The semantics of counting code, apart from the programs that verify and run it: what is known at each place of a code, and which codes are well
 //! kinded; what each instruction does to a state of the machine, how a run ends, and that no run of a well-kinded code is stuck.
 //!
-//! Stands on `sl_code_instructions`, `sl_prio` and `sl_stages`; used by the rooms code, compile, count and explain.
+//! Stands on `sl_code_instructions`, `sl_base_rankings` and `sl_law_meaning`; used by the rooms code, compile, count and explain.
 //! Proved: no run of a well-kinded code is stuck.
 #![tactic(auto)]
 

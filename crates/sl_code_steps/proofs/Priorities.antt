@@ -6,19 +6,19 @@ use Rattle.std.proofs.lemmas.Bool.{true≢false}
 use Rattle.std.proofs.lemmas.Option.{same_Some}
 use Rattle.std.proofs.lemmas.List.Elements.{All-cons, All-head, All-tail}
 use Rattle.std.proofs.lemmas.List.Sorted.{All-permutation, IsPermutation-sym}
-use Rattle.sl_ratio.specs.declared.entry.Entry.{Entry}
-use Rattle.sl_ratio.specs.Quotient.{FitsRatio}
-use Rattle.sl_stages.specs.returns.Election.{Election}
-use Rattle.sl_prio.specs.Ranking.{ranked}
-use Rattle.sl_prio.specs.Prio.{top, peers, is_covered}
-use Rattle.sl_prio.specs.Lot.{drawn}
-use Rattle.sl_prio.specs.Laws.{AnswersAlike}
-use Rattle.sl_prio.specs.Lot.{lot_cmp}
-use Rattle.sl_prio.proofs.Greatest.{greatest-None}
-use Rattle.sl_prio.proofs.Orders.{lot_order}
-use Rattle.sl_prio.proofs.Rankings.{ranked-permutation}
-use Rattle.sl_prio.proofs.LawProofs.{order_is_free, first_peers}
-use Rattle.sl_prio.proofs.RankedEntries.{ranked_alike, ranked_with_one_more, ranked_without_one}
+use Rattle.sl_base_quotients.specs.declared.entry.Entry.{Entry}
+use Rattle.sl_base_quotients.specs.Quotient.{FitsRatio}
+use Rattle.sl_law_meaning.specs.returns.Election.{Election}
+use Rattle.sl_base_rankings.specs.Ranking.{ranked}
+use Rattle.sl_base_rankings.specs.Peers.{top, peers, is_covered}
+use Rattle.sl_base_rankings.specs.Lot.{drawn}
+use Rattle.sl_base_rankings.specs.Laws.{AnswersAlike}
+use Rattle.sl_base_rankings.specs.Lot.{lot_cmp}
+use Rattle.sl_base_rankings.proofs.Greatest.{greatest-None}
+use Rattle.sl_base_rankings.proofs.Orders.{lot_order}
+use Rattle.sl_base_rankings.proofs.Rankings.{ranked-permutation}
+use Rattle.sl_base_rankings.proofs.LawProofs.{order_is_free, first_peers}
+use Rattle.sl_base_rankings.proofs.RankedEntries.{ranked_alike, ranked_with_one_more, ranked_without_one}
 use Rattle.sl_prio.specs.inner.Marks.{IsPassed}
 use Rattle.sl_code_steps.specs.declared.priority.TableKind.{TableKind}
 use Rattle.sl_code_steps.specs.declared.priority.PriorityTable.TheInside.{Inside}

@@ -1,9 +1,9 @@
 //! The cursors of the party and the Land, with the cells of columns at them.
 
-ghost use Rattle.std.specs.Prelude.{◌≡◌, ◌<◌, ◌≤◌, Some, None, IsSome};
+ghost use Rattle.std.specs.Prelude.{◌≡◌, ◌<◌, ◌≤◌, ◌*◌, ◌/◌, ◌%◌, Some, None, IsSome};
 ghost use Rattle.sl_code_steps.specs.inner.Positions.{cell_there};
 
-use sl_ratio::{MAX_LANDS, MAX_PARTIES};
+use sl_base_quotients::{MAX_LANDS, MAX_PARTIES};
 use sl_stages::{SHAPES, Shape};
 use std::marker::Model;
 
@@ -90,6 +90,21 @@ impl CellCursors {
         self.row = land * self.parties;
         self.cells[LAND] = land;
         self.cells[LIST] = self.row + self.cells[PARTY];
+    }
+
+    /// Moves both cursors to the list at a place of a column of lists. Its cell is that place, so no read of it waits for the division.
+    pub(crate) fn set_list(&mut self, place: usize)
+        requires { place < MAX_LANDS * self.old.parties }
+        ensures { self.new ≡ record self.old { land = Some (place / self.old.parties); party = Some (place % self.old.parties) } }
+    {
+        let land = place / self.parties;
+        let party = place % self.parties;
+        self.is_land_set = true;
+        self.is_party_set = true;
+        self.row = land * self.parties;
+        self.cells[LAND] = land;
+        self.cells[PARTY] = party;
+        self.cells[LIST] = place;
     }
 
     /// Leaves the Land's cursor unset.

@@ -7,8 +7,8 @@ ghost use Rattle.sl_code_semantics.specs.Places.{cells_of};
 ghost use Rattle.sl_code_semantics.specs.Effects.{input_of};
 
 use crate::columns::read_input;
+use sl_base_quotients::{MAX_LANDS, MAX_PARTIES, NoMemory};
 use sl_code_instructions::Input;
-use sl_ratio::{MAX_LANDS, MAX_PARTIES, NoMemory};
 use sl_stages::Returns;
 use std::alloc::Global;
 use std::marker::Model;

@@ -5,9 +5,9 @@ ghost use Rattle.std.specs.List.{range_with_len};
 ghost use Rattle.sl_code_semantics.specs.declared.known.TheConstants.{REGISTERS};
 ghost use Rattle.sl_code_semantics.specs.Needs.{input_shape};
 ghost use Rattle.sl_code_instructions.specs.declared.instr.Instr.TheVariants as instr;
-ghost use Rattle.sl_stages.specs.declared.returns.ListVotes.{ListVotes};
-ghost use Rattle.sl_stages.specs.returns.Election.{IsElection, parties_of};
-ghost use Rattle.sl_stages.specs.returns.Votes.{slate_in};
+ghost use Rattle.sl_law_meaning.specs.declared.election.ListVotes.{ListVotes};
+ghost use Rattle.sl_law_meaning.specs.returns.Election.{IsElection, parties_of};
+ghost use Rattle.sl_law_meaning.specs.returns.Votes.{slate_in};
 ghost use Rattle.sl_code_semantics.specs.State.{with_column};
 ghost use Rattle.sl_code_semantics.specs.Places.{cells_of};
 ghost use Rattle.sl_code_semantics.specs.Effects.{Goes, effect, input_of, names_or_most};
@@ -17,8 +17,8 @@ ghost use Rattle.sl_code_steps.specs.inner.Stores.{state_of, sizes_of, sizes_for
 
 use crate::step::Effect;
 use crate::store::Store;
+use sl_base_quotients::NoMemory;
 use sl_code_instructions::{Code, Input};
-use sl_ratio::NoMemory;
 use sl_stages::Returns;
 
 // A cell of a column of the returns.

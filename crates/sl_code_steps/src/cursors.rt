@@ -4,7 +4,7 @@ ghost use Rattle.std.specs.Prelude.{◌≡◌, ◌<◌, ◌+◌, ◌*◌, Some, 
 ghost use Rattle.sl_code_semantics.specs.declared.known.TheConstants.{REGISTERS};
 ghost use Rattle.sl_code_instructions.specs.Codes.{CountingCode};
 ghost use Rattle.sl_code_instructions.specs.declared.instr.Instr.TheVariants as instr;
-ghost use Rattle.sl_stages.specs.returns.Election.{IsElection, lands_of, parties_of, wins_of, has_list};
+ghost use Rattle.sl_law_meaning.specs.returns.Election.{IsElection, lands_of, parties_of, wins_of, has_list};
 ghost use Rattle.sl_code_semantics.specs.Places.{both, cells_of, cell_at, index_at, scope_at, item_of, at_entry};
 ghost use Rattle.sl_code_semantics.specs.Effects.{Goes, Jumps, effect, given, with_party, with_land, with_win, winner_at, first_of, next_of, to_party};
 ghost use Rattle.sl_code_semantics.specs.Safe.{IsInRange, entries_in};
@@ -84,19 +84,17 @@ impl Store {
 
     /// Moves the cursors to the table's entry of that number.
     pub(crate) fn move_to(&mut self, returns: &Returns, entries: Entries, index: usize)
-        requires { index < entries_in returns.now entries }
+        requires index { index < entries_in returns.now entries }
+        requires parties { (sizes_of self.old).parties ≡ parties_of returns.now }
+        requires election { IsElection returns.now }
         ensures state { state_of self.new ≡ at_entry returns.now entries index (state_of self.old) }
         ensures table { self.new.table ≡ self.old.table }
         ensures kept { sizes_of self.new ≡ sizes_of self.old }
     {
-        let parties = returns.parties();
         match entries {
             Entries::Party => self.cursors.cells.set_party(index),
             Entries::Land => self.cursors.cells.set_land(index),
-            Entries::List => {
-                self.cursors.cells.set_land(index / parties);
-                self.cursors.cells.set_party(index % parties);
-            }
+            Entries::List => self.cursors.cells.set_list(index),
             Entries::Win => self.cursors.win.set(index),
         }
     }

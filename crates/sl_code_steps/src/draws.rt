@@ -3,12 +3,12 @@
 ghost use Rattle.std.specs.Prelude.{◌≡◌, ◌≤◌, ◌∷◌, ℕ, All, IsPermutation, List, false, if◌then◌else◌, nat_eq};
 ghost use Rattle.std.specs.Option.{option_map_or};
 ghost use Rattle.std.specs.Ordering.{is_lt};
-ghost use Rattle.sl_ratio.specs.Quotient.{compare, FitsRatio};
-ghost use Rattle.sl_prio.specs.Prio.{top, peers};
+ghost use Rattle.sl_base_quotients.specs.Quotient.{compare, FitsRatio};
+ghost use Rattle.sl_base_rankings.specs.Peers.{top, peers};
 ghost use Rattle.sl_prio.specs.inner.Marks.{IsPassed};
 
+use sl_base_quotients::Entry;
 use sl_prio::AwardTable;
-use sl_ratio::Entry;
 
 /// The stage whose lot drew last, and a place of that lot before which it names none of the peers. The next draw goes on from there.
 #[derive(Clone, Copy)]

@@ -7,8 +7,8 @@ ghost use Rattle.sl_code_semantics.specs.Needs.{has_stage};
 ghost use Rattle.sl_code_semantics.specs.WellKinded.{context_of};
 ghost use Rattle.sl_code_instructions.specs.Codes.{CountingCode};
 ghost use Rattle.sl_code_instructions.specs.declared.instr.Instr.TheVariants as instr;
-ghost use Rattle.sl_prio.specs.Prio.{top};
-ghost use Rattle.sl_stages.specs.returns.Election.{Election, IsElection, wins_of};
+ghost use Rattle.sl_base_rankings.specs.Peers.{top};
+ghost use Rattle.sl_law_meaning.specs.returns.Election.{Election, IsElection, wins_of};
 ghost use Rattle.sl_code_semantics.specs.State.{State, Halted, with_place};
 ghost use Rattle.sl_code_semantics.specs.Places.{scope_at};
 ghost use Rattle.sl_code_semantics.specs.Effects.{Goes, Ends, effect, faults, kind_of};
@@ -18,8 +18,8 @@ ghost use Rattle.sl_code_steps.specs.inner.Stores.{state_of, sizes_of, effect_of
 use crate::records::stage_number;
 use crate::step::{Effect, End};
 use crate::store::Store;
+use sl_base_quotients::NoMemory;
 use sl_code_instructions::{Code, EndFault, ScopeKind};
-use sl_ratio::NoMemory;
 use sl_stages::{FaultKind, Items, LegalFault, Placed, Returns};
 
 /// Ends with the seats of the lists.

@@ -1,6 +1,6 @@
 //! The steps of the counting machine: its state in memory, what each instruction does to it, and what a run leaves.
 //!
-//! Stands on `sl_code_semantics`; used by the rooms code and count. Proved: a step does what the semantics say.
+//! Stands on `sl_code_semantics`, `sl_prio` and `sl_stages`; used by the rooms code and count. Proved: a step does what the semantics say.
 //!
 //! Where an error is `NoMemory` alone, memory ran out, and nothing else is wrong.
 #![tactic(auto)]

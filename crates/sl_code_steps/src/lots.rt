@@ -2,16 +2,16 @@
 
 ghost use Rattle.std.specs.Prelude.{◌≡◌, ◌<◌, ◌++◌, Some, None, IfOk, OnOk, length, slice_get, option_map, if◌then◌else◌};
 ghost use Rattle.std.specs.Option.{option_to_list};
-ghost use Rattle.sl_stages.specs.returns.Election.{IsElection, IsLot, lands_of, parties_of, wins_of};
+ghost use Rattle.sl_law_meaning.specs.returns.Election.{IsElection, IsLot, lands_of, parties_of, wins_of};
 ghost use Rattle.std.specs.Str.{bytes_eq};
-ghost use Rattle.sl_stages.specs.meaning.Lots.{is_winner_of};
-ghost use Rattle.sl_stages.specs.meaning.Scopes.{place};
+ghost use Rattle.sl_law_meaning.specs.meaning.Lots.{is_winner_of};
+ghost use Rattle.sl_law_meaning.specs.meaning.Scopes.{place};
 ghost use Rattle.sl_code_semantics.specs.Drawn.{given_in};
 ghost use Rattle.sl_code_steps.specs.inner.Lots.{lot_in, with_lot, stage_lots, lots_for};
 
 use crate::store::append;
+use sl_base_quotients::NoMemory;
 use sl_code_instructions::{Code, Entries};
-use sl_ratio::NoMemory;
 use sl_stages::{Lot, Returns};
 use std::alloc::Global;
 use std::marker::Model;

@@ -2,7 +2,7 @@
 
 ghost use Rattle.std.specs.Prelude.{◌≡◌, ◌<◌, Some, slice_get, length};
 ghost use Rattle.std.specs.Option.{ForSome};
-ghost use Rattle.sl_stages.specs.returns.Election.{Election};
+ghost use Rattle.sl_law_meaning.specs.returns.Election.{Election};
 ghost use Rattle.sl_code_instructions.specs.Codes.{CountingCode};
 ghost use Rattle.sl_code_semantics.specs.Memories.{held_of};
 ghost use Rattle.sl_code_steps.specs.inner.Leaving.{held_with, HasVacancy};

@@ -3,10 +3,10 @@
 ghost use Rattle.std.specs.Prelude.{◌≡◌, ◌<◌, All, Some, None, [], IsSome, IfOk, OnOk, length, map, drop, slice_get, option_map, if◌then◌else◌};
 ghost use Rattle.std.specs.Option.{ForSome, option_and_then};
 ghost use Rattle.sl_code_instructions.specs.declared.operand.Ranking.TheVariants as ranking;
-ghost use Rattle.sl_prio.specs.Prio.{top, peers, is_covered};
-ghost use Rattle.sl_prio.specs.Lot.{drawn};
+ghost use Rattle.sl_base_rankings.specs.Peers.{top, peers, is_covered};
+ghost use Rattle.sl_base_rankings.specs.Lot.{drawn};
 ghost use Rattle.sl_code_steps.specs.inner.Lots.{lot_in};
-ghost use Rattle.sl_stages.specs.returns.Election.{Election};
+ghost use Rattle.sl_law_meaning.specs.returns.Election.{Election};
 ghost use Rattle.sl_code_semantics.specs.State.{State};
 ghost use Rattle.sl_code_semantics.specs.Places.{at_entry, item_of};
 ghost use Rattle.sl_code_semantics.specs.Effects.{Goes, Jumps, given, takes, mark_of, with_entry};
@@ -17,9 +17,9 @@ use crate::cursors::item_of;
 use crate::draws::Draws;
 use crate::lots::Lots;
 use crate::store::append;
+use sl_base_quotients::{Entry, NoMemory, Ratio};
 use sl_code_instructions::{Entries, Ranking};
 use sl_prio::AwardTable;
-use sl_ratio::{Entry, NoMemory, Ratio};
 use sl_stages::{Item, Mark, Returns};
 use std::alloc::Global;
 use std::marker::Model;
@@ -54,7 +54,7 @@ impl Model for PriorityTable {
     ghost Value = { LotTable };
 
     ghost use Rattle.std.specs.Prelude.{All};
-    ghost use Rattle.sl_ratio.specs.Quotient.{FitsRatio};
+    ghost use Rattle.sl_base_quotients.specs.Quotient.{FitsRatio};
     ghost use Rattle.sl_code_steps.specs.inner.Tables.{table_in, HasMarks, HasPassed};
 
     ghost view = { λ t. record { on = table_in t; lots = t.lots } };

@@ -14,9 +14,9 @@ ghost use Rattle.sl_code_steps.specs.inner.Stores.{state_of, sizes_of, effect_of
 use crate::cursors::item_of;
 use crate::step::Effect;
 use crate::store::{Store, append};
+use sl_base_quotients::{MAX_WEIGHT, NoMemory};
 use sl_code_instructions::{Code, Rounding, ScopeKind};
 use sl_code_semantics::LAST_CLAUSE;
-use sl_ratio::{MAX_WEIGHT, NoMemory};
 use sl_stages::{Item, Mark, Returns, SeatStep, Weight};
 
 /// The number of the stage that an instruction names, which is the number of stages for the last clause.

@@ -5,7 +5,7 @@ ghost use Rattle.sl_code_instructions.specs.Rows.{target_of};
 ghost use Rattle.sl_code_semantics.specs.Needs.{has_columns};
 ghost use Rattle.sl_code_semantics.specs.WellKinded.{context_of};
 ghost use Rattle.sl_code_semantics.specs.Effects.{Ends, effect};
-ghost use Rattle.sl_stages.specs.returns.Election.{IsElection};
+ghost use Rattle.sl_law_meaning.specs.returns.Election.{IsElection};
 ghost use Rattle.sl_code_steps.specs.inner.Recording.{state_by, left_by};
 ghost use Rattle.sl_code_steps.specs.declared.step.Records.{Records};
 ghost use Rattle.sl_code_semantics.specs.Safe.{MayStep};
@@ -14,8 +14,8 @@ ghost use Rattle.sl_code_steps.specs.inner.Stores.{state_of, sizes_of, sizes_for
 
 use crate::ends::{halt, halt_with_vacant};
 use crate::store::Store;
+use sl_base_quotients::NoMemory;
 use sl_code_instructions::{Code, Instr};
-use sl_ratio::NoMemory;
 use sl_stages::{LegalFault, Returns};
 
 /// The end that an instruction gives a run.

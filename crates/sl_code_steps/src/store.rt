@@ -1,7 +1,7 @@
 //! What the machine holds during a run.
 
 ghost use Rattle.std.specs.Prelude.{◌≡◌, ◌≤◌, ◌++◌, ◌∷◌, [], map, replicate, IfOk, OnOk};
-ghost use Rattle.sl_stages.specs.returns.Election.{IsElection};
+ghost use Rattle.sl_law_meaning.specs.returns.Election.{IsElection};
 ghost use Rattle.sl_code_semantics.specs.State.{start};
 ghost use Rattle.sl_code_semantics.specs.Places.{cells_of};
 ghost use Rattle.sl_code_steps.specs.inner.Stores.{state_of, sizes_of, sizes_for};
@@ -11,9 +11,9 @@ use crate::column::{Column, MOST_CELLS};
 use crate::cursor::Cursor;
 use crate::lots::Lots;
 use crate::priority::PriorityTable;
+use sl_base_quotients::{NoMemory, Ratio};
 use sl_code_instructions::Code;
 use sl_code_semantics::REGISTERS;
-use sl_ratio::{NoMemory, Ratio};
 use sl_stages::{Mark, Placed, Returns, SeatStep, Shape, Weight};
 use std::alloc::Global;
 

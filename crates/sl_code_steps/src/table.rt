@@ -2,16 +2,16 @@
 
 ghost use Rattle.std.specs.Prelude.{◌≡◌, ◌<◌, ◌+◌, min, IsTrue, IsSome, IfOk};
 ghost use Rattle.std.specs.Option.{ForSome, option_and_then};
-ghost use Rattle.sl_ratio.specs.Quotient.{quotient};
-ghost use Rattle.sl_ratio.specs.declared.limits.TheConstants.{MAX_WEIGHT, MAX_SEATS};
+ghost use Rattle.sl_base_quotients.specs.Quotient.{quotient};
+ghost use Rattle.sl_base_quotients.specs.declared.limits.TheConstants.{MAX_WEIGHT, MAX_SEATS};
 ghost use Rattle.sl_code_semantics.specs.declared.known.TheConstants.{REGISTERS};
 ghost use Rattle.sl_code_semantics.specs.Needs.{has_stage};
 ghost use Rattle.sl_code_semantics.specs.WellKinded.{context_of};
 ghost use Rattle.sl_code_instructions.specs.Codes.{CountingCode};
 ghost use Rattle.sl_code_instructions.specs.declared.instr.Instr.TheVariants as instr;
 ghost use Rattle.sl_code_instructions.specs.declared.operand.Ranking.TheVariants as ranking;
-ghost use Rattle.sl_prio.specs.Prio.{top};
-ghost use Rattle.sl_stages.specs.returns.Election.{Election, IsElection};
+ghost use Rattle.sl_base_rankings.specs.Peers.{top};
+ghost use Rattle.sl_law_meaning.specs.returns.Election.{Election, IsElection, parties_of};
 ghost use Rattle.sl_code_semantics.specs.Places.{at_entry};
 ghost use Rattle.sl_code_semantics.specs.Effects.{Goes, effect, given, winner_at};
 ghost use Rattle.sl_code_semantics.specs.Safe.{IsInRange, entries_in};
@@ -24,8 +24,8 @@ use crate::priority::Taken;
 use crate::records::stage_number;
 use crate::step::Effect;
 use crate::store::Store;
+use sl_base_quotients::{Divisor, Entry, MAX_SEATS, MAX_WEIGHT, NoMemory, Ratio};
 use sl_code_instructions::{Code, Entries, Ranking};
-use sl_ratio::{Divisor, Entry, MAX_SEATS, MAX_WEIGHT, NoMemory, Ratio};
 use sl_stages::Returns;
 
 impl Store {
@@ -142,7 +142,9 @@ impl Store {
 
     // Moves the cursors and the mark to an entry that was taken.
     fn move_to_taken(&mut self, returns: &Returns, taken: Taken) -> Effect
-        requires { taken.index < entries_in returns.now taken.entries }
+        requires taken { taken.index < entries_in returns.now taken.entries }
+        requires parties { (sizes_of self.old).parties ≡ parties_of returns.now }
+        requires election { IsElection returns.now }
         ensures follows { effect_of result (state_of self.new) ≡ Goes (at_entry returns.now taken.entries taken.index (record (state_of self.old) { mark = taken.mark })) }
         ensures kept { sizes_of self.new ≡ sizes_of self.old }
     {
@@ -154,6 +156,8 @@ impl Store {
     /// Takes the greatest entry.
     pub(crate) fn take_top(&mut self, returns: &Returns) -> Effect
         requires top { IsSome (option_and_then (λ t. top t.contents) self.old.table.on) }
+        requires parties { (sizes_of self.old).parties ≡ parties_of returns.now }
+        requires election { IsElection returns.now }
         requires range { IsInRange returns.now (state_of self.old) }
         ensures follows { (c : CountingCode) → effect_of result (state_of self.new) ≡ effect c returns.now instr.Take (state_of self.old) }
         ensures kept { sizes_of self.new ≡ sizes_of self.old }
@@ -184,6 +188,8 @@ impl Store {
         requires stage { IsTrue (has_stage (context_of code.now) stage) }
         requires top { IsSome (option_and_then (λ t. top t.contents) self.old.table.on) }
         requires lots { self.old.table.lots ≡ lots_for code.now returns.now }
+        requires parties { (sizes_of self.old).parties ≡ parties_of returns.now }
+        requires election { IsElection returns.now }
         requires range { IsInRange returns.now (state_of self.old) }
         ensures follows { effect_of result (state_of self.new) ≡ effect code.now returns.now (instr.Takelot stage) (state_of self.old) }
         ensures kept { sizes_of self.new ≡ sizes_of self.old }

@@ -1,10 +1,10 @@
 -- The blocks of an expression stand where those of its arguments and then its own do.
 use Rattle.std.proofs.Common.{◌≡◌, ℕ, ◌+◌, ◌*◌, ◌<◌, max, List, [], ◌∷◌, ◌++◌, Result, IfOk, sym, ap, ◌∙◌, subst, arith, append_assoc}
-use Rattle.sl_stages.specs.declared.book.ColumnType.{ColumnType}
-use Rattle.sl_stages.specs.declared.book.Expr.{Expr}
-use Rattle.sl_stages.specs.book.Trees.{ExprTree, tree_of}
-use Rattle.sl_stages.specs.book.Limits.{depth_of}
-use Rattle.sl_stages.specs.book.Typing.{Column, type_of}
+use Rattle.sl_law_meaning.specs.declared.book.ColumnType.{ColumnType}
+use Rattle.sl_law_meaning.specs.declared.book.Expr.{Expr}
+use Rattle.sl_law_meaning.specs.book.Trees.{ExprTree, tree_of}
+use Rattle.sl_law_meaning.specs.book.Limits.{depth_of}
+use Rattle.sl_law_meaning.specs.book.Typing.{Column, type_of}
 use Rattle.sl_code_instructions.specs.declared.instr.Instr.{Instr}
 use Rattle.sl_code_instructions.specs.Codes.{CountingCode}
 use Rattle.sl_compile_plans.specs.Trees.{Tree}

@@ -1,15 +1,15 @@
 -- The arms of an expression: its tree over those of its parts, and what is so of its arguments.
 use Rattle.std.proofs.Common.{◌≡◌, ℕ, ◌+◌, ◌*◌, ◌<◌, max, true, List, [], ◌∷◌, ◌++◌, Result, IfOk, refl, ap, ◌∙◌, sym, subst, arith}
 use Rattle.std.specs.Global.{Box}
-use Rattle.sl_stages.specs.declared.book.Pairing.{Pairing}
-use Rattle.sl_stages.specs.declared.book.Axis.{Axis}
-use Rattle.sl_stages.specs.declared.book.Axis.TheVariants as axis
+use Rattle.sl_law_meaning.specs.declared.book.Pairing.{Pairing}
+use Rattle.sl_law_meaning.specs.declared.book.Axis.{Axis}
+use Rattle.sl_law_meaning.specs.declared.book.Axis.TheVariants as axis
 use Rattle.sl_base_terms.specs.declared.shape.Shape.{Shape}
-use Rattle.sl_stages.specs.declared.book.ColumnType.{ColumnType}
-use Rattle.sl_stages.specs.declared.book.Expr.{Expr, Sum, Pair}
-use Rattle.sl_stages.specs.book.Limits.{depth_of}
-use Rattle.sl_stages.specs.book.Trees.{ExprTree, tree_of, sum, pair}
-use Rattle.sl_stages.specs.book.Typing.{Column, column, shape_over, can_sum, type_of, expr_tests, sum_tests}
+use Rattle.sl_law_meaning.specs.declared.book.ColumnType.{ColumnType}
+use Rattle.sl_law_meaning.specs.declared.book.Expr.{Expr, Sum, Pair}
+use Rattle.sl_law_meaning.specs.book.Limits.{depth_of}
+use Rattle.sl_law_meaning.specs.book.Trees.{ExprTree, tree_of, sum, pair}
+use Rattle.sl_law_meaning.specs.book.Typing.{Column, column, shape_over, can_sum, type_of, expr_tests, sum_tests}
 use Rattle.sl_base_terms.proofs.Tests.{pass_parts, head_holds}
 use Rattle.sl_code_instructions.specs.declared.instr.Instr.{Instr}
 use Rattle.sl_code_instructions.specs.Codes.{CountingCode}

@@ -5,14 +5,14 @@ use Rattle.std.proofs.Math.Nat.{mul-le-mul_left, le_of_mul-le-mul_left, mul_comm
 use Rattle.std.proofs.Math.Seq.{drop-length}
 use Rattle.std.proofs.lemmas.Bool.{leb-true, le-leb}
 use Rattle.std.proofs.lemmas.List.Elements.{All-nil, All-cons, All-append}
-use Rattle.sl_stages.specs.declared.book.Cond.{Cond}
-use Rattle.sl_stages.specs.declared.book.Cond.TheVariants as condition
-use Rattle.sl_stages.specs.declared.check_fault.CheckFault.TheVariants as fault
+use Rattle.sl_law_meaning.specs.declared.book.Cond.{Cond}
+use Rattle.sl_law_meaning.specs.declared.book.Cond.TheVariants as condition
+use Rattle.sl_law_meaning.specs.declared.check_fault.CheckFault.TheVariants as fault
 use Rattle.sl_base_terms.specs.Tests.{first_failing}
-use Rattle.sl_stages.specs.book.Typing.{condition_tests}
+use Rattle.sl_law_meaning.specs.book.Typing.{condition_tests}
 use Rattle.sl_base_terms.proofs.Tests.{head_holds}
-use Rattle.sl_stages.specs.returns.Election.{Election}
-use Rattle.sl_stages.specs.returns.Facts.{meets, is_eligible, valid_votes, all_valid_votes}
+use Rattle.sl_law_meaning.specs.returns.Election.{Election}
+use Rattle.sl_law_meaning.specs.returns.Facts.{meets, is_eligible, valid_votes, all_valid_votes}
 use Rattle.sl_compile_pieces.specs.facts.Laws.{IsShare}
 use Rattle.sl_compile.specs.Conditions.{SayTheSame}
 use Rattle.sl_blocks.specs.declared.easiest.Share.{Share}

@@ -1,17 +1,17 @@
 -- What is asked of an expression is so of its arguments.
 use Rattle.std.proofs.Common.{◌≡◌, ℕ, ◌+◌, ◌≤◌, List, None, max}
-use Rattle.sl_ratio.specs.declared.method.Method.{Method}
-use Rattle.sl_stages.specs.declared.book.Pairing.{Pairing}
-use Rattle.sl_stages.specs.declared.book.Axis.{Axis}
-use Rattle.sl_stages.specs.declared.book.Majority.{Majority}
-use Rattle.sl_stages.specs.declared.book.Number.{Number}
-use Rattle.sl_stages.specs.declared.limits.TheConstants.{MAX_DEPTH}
-use Rattle.sl_stages.specs.book.Trees.{ExprTree, sum, pair, split, without, atleast, grow}
+use Rattle.sl_base_quotients.specs.declared.method.Method.{Method}
+use Rattle.sl_law_meaning.specs.declared.book.Pairing.{Pairing}
+use Rattle.sl_law_meaning.specs.declared.book.Axis.{Axis}
+use Rattle.sl_law_meaning.specs.declared.book.Majority.{Majority}
+use Rattle.sl_law_meaning.specs.declared.book.Number.{Number}
+use Rattle.sl_law_meaning.specs.declared.limits.TheConstants.{MAX_DEPTH}
+use Rattle.sl_law_meaning.specs.book.Trees.{ExprTree, sum, pair, split, without, atleast, grow}
 use Rattle.sl_base_terms.specs.Tests.{first_failing}
-use Rattle.sl_stages.specs.book.Limits.{depth_of}
-use Rattle.sl_stages.specs.book.Typing.{Column, type_of, expr_tests, splits_in, sum_tests, alike_tests, split_tests, split_from_tests, grow_tests}
+use Rattle.sl_law_meaning.specs.book.Limits.{depth_of}
+use Rattle.sl_law_meaning.specs.book.Typing.{Column, type_of, expr_tests, splits_in, sum_tests, alike_tests, split_tests, split_from_tests, grow_tests}
 use Rattle.sl_base_terms.proofs.Tests.{pass_parts}
-use Rattle.sl_stages.proofs.typing.TestLists.{pass_parts3, pass_parts4}
+use Rattle.sl_law_meaning.proofs.typing.TestLists.{pass_parts3, pass_parts4}
 use Rattle.sl_compile_pieces.specs.declared.slots.TheConstants.{LEVELS}
 use Rattle.sl_compile_pieces.proofs.exprs.Levels.{low_level, one_level, two_levels, split_levels, three_levels, pair_passes, split_passes, split_from_passes, grow_passes}
 use Rattle.sl_compile.specs.inner.Earlier.{Fits, FitsSplit, FitsMinima, FitsGrowth}

@@ -4,18 +4,18 @@ use Rattle.std.specs.Prelude.{find, position, unwrap_or}
 use Rattle.std.specs.List.{list_any, position_or_len}
 use Rattle.std.proofs.lemmas.Bool.{and_parts, false≢true, lt-ltb}
 use Rattle.std.proofs.lemmas.List.Folds.{find_at}
-use Rattle.sl_stages.specs.declared.fact.Fact.TheVariants as facts
-use Rattle.sl_stages.specs.declared.book.Axis.{Axis}
-use Rattle.sl_stages.specs.declared.book.Base.{Base}
-use Rattle.sl_stages.specs.declared.book.Base.TheVariants as base
-use Rattle.sl_stages.specs.declared.book.ColumnType.{ColumnType}
-use Rattle.sl_stages.specs.declared.book.Pairing.{Pairing}
+use Rattle.sl_law_meaning.specs.declared.fact.Fact.TheVariants as facts
+use Rattle.sl_law_meaning.specs.declared.book.Axis.{Axis}
+use Rattle.sl_law_meaning.specs.declared.book.Base.{Base}
+use Rattle.sl_law_meaning.specs.declared.book.Base.TheVariants as base
+use Rattle.sl_law_meaning.specs.declared.book.ColumnType.{ColumnType}
+use Rattle.sl_law_meaning.specs.declared.book.Pairing.{Pairing}
 use Rattle.sl_base_terms.specs.declared.shape.Shape.{Shape}
 use Rattle.sl_base_terms.specs.declared.shape.Shape.TheVariants as shape
-use Rattle.sl_stages.specs.declared.limits.TheConstants.{MAX_DEPTH}
+use Rattle.sl_law_meaning.specs.declared.limits.TheConstants.{MAX_DEPTH}
 use Rattle.sl_base_terms.specs.Tests.{first_failing}
-use Rattle.sl_stages.specs.book.Trees.{ExprTree, name}
-use Rattle.sl_stages.specs.book.Typing.{Column, is_named, type_or_one, type_of, shape_over, base_tests}
+use Rattle.sl_law_meaning.specs.book.Trees.{ExprTree, name}
+use Rattle.sl_law_meaning.specs.book.Typing.{Column, is_named, type_or_one, type_of, shape_over, base_tests}
 use Rattle.sl_base_terms.specs.Shapes.{same_shape}
 use Rattle.sl_base_terms.proofs.Shapes.{same_shape_is}
 use Rattle.sl_base_terms.proofs.Tests.{head_holds}

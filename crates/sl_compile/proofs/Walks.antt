@@ -8,16 +8,16 @@ use Rattle.std.proofs.Math.ListN.{set}
 use Rattle.std.proofs.lemmas.List.{length-map}
 use Rattle.std.proofs.Math.Seq.{drop-cons}
 use Rattle.std.proofs.lemmas.Bool.{leb-true}
-use Rattle.sl_stages.specs.declared.book.Stage.{Stage}
+use Rattle.sl_law_meaning.specs.declared.book.Stage.{Stage}
 use Rattle.sl_base_terms.specs.declared.shape.Shape.TheVariants as shape
-use Rattle.sl_stages.specs.declared.book.Unit.TheVariants as unit
-use Rattle.sl_stages.specs.declared.book.ColumnType.{ColumnType}
-use Rattle.sl_stages.specs.declared.limits.TheConstants.{MAX_DEPTH}
+use Rattle.sl_law_meaning.specs.declared.book.Unit.TheVariants as unit
+use Rattle.sl_law_meaning.specs.declared.book.ColumnType.{ColumnType}
+use Rattle.sl_law_meaning.specs.declared.limits.TheConstants.{MAX_DEPTH}
 use Rattle.sl_base_terms.specs.declared.limits.TheConstants.{MAX_STAGES}
-use Rattle.sl_stages.specs.book.Trees.{StageTree, tree_of, stage_of}
+use Rattle.sl_law_meaning.specs.book.Trees.{StageTree, tree_of, stage_of}
 use Rattle.sl_base_terms.specs.Tests.{first_failing}
-use Rattle.sl_stages.specs.book.Limits.{is_within_stage, is_within_limits, depth_of}
-use Rattle.sl_stages.specs.book.Typing.{Column, column, is_named, type_or_one, type_of, stage_column, columns_of, stage_tests, stages_tests, splits_in}
+use Rattle.sl_law_meaning.specs.book.Limits.{is_within_stage, is_within_limits, depth_of}
+use Rattle.sl_law_meaning.specs.book.Typing.{Column, column, is_named, type_or_one, type_of, stage_column, columns_of, stage_tests, stages_tests, splits_in}
 use Rattle.sl_base_terms.proofs.Tests.{pass_parts, head_holds}
 use Rattle.sl_code_instructions.specs.declared.instr.Instr.{Instr}
 use Rattle.sl_code_instructions.specs.Codes.{CountingCode}

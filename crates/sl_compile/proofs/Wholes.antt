@@ -2,13 +2,13 @@
 use Rattle.std.proofs.Common.{◌≡◌, ℕ, ◌<◌, ◌≤◌, ◌^◌, List, [], ◌∷◌, ◌++◌, Bool, true, false, Option, None, Some, length, map, flat_map, take, refl, ap, ◌∙◌, arith, append_assoc}
 use Rattle.std.specs.List.{AllByRecursion}
 use Rattle.std.proofs.lemmas.List.Elements.{All-from_recursion}
-use Rattle.sl_stages.specs.declared.book.Stage.{Stage}
+use Rattle.sl_law_meaning.specs.declared.book.Stage.{Stage}
 use Rattle.sl_base_terms.specs.declared.shape.Shape.{Shape}
-use Rattle.sl_stages.specs.declared.book.ColumnType.{ColumnType}
-use Rattle.sl_stages.specs.book.Trees.{BookTree, stage_of}
-use Rattle.sl_stages.specs.book.Limits.{condition_numbers}
+use Rattle.sl_law_meaning.specs.declared.book.ColumnType.{ColumnType}
+use Rattle.sl_law_meaning.specs.book.Trees.{BookTree, stage_of}
+use Rattle.sl_law_meaning.specs.book.Limits.{condition_numbers}
 use Rattle.sl_base_terms.specs.Tests.{first_failing}
-use Rattle.sl_stages.specs.book.Typing.{Column, columns_of, version_tests, condition_tests, stages_tests, base_tests, tests_of, is_typed}
+use Rattle.sl_law_meaning.specs.book.Typing.{Column, columns_of, version_tests, condition_tests, stages_tests, base_tests, tests_of, is_typed}
 use Rattle.sl_base_terms.proofs.Tests.{no_fault, pass_parts, head_holds}
 use Rattle.sl_code_instructions.specs.declared.instr.Instr.{Instr}
 use Rattle.sl_code_instructions.specs.Codes.{CountingCode}

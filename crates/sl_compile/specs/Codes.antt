@@ -2,11 +2,11 @@
 -- (docs/compiler.md, section 7).
 use Rattle.std.specs.Prelude.{◌≡◌, ℕ, ◌+◌, ◌≤◌, List, [], ◌∷◌, ◌++◌, map, flat_map, length}
 use Rattle.std.specs.List.{range_with_len}
-use Rattle.sl_stages.specs.declared.book.Cond.{Cond}
+use Rattle.sl_law_meaning.specs.declared.book.Cond.{Cond}
 use Rattle.sl_base_terms.specs.declared.shape.Shape.{Shape}
 use Rattle.sl_base_terms.specs.declared.shape.Shape.TheVariants as shape
-use Rattle.sl_stages.specs.book.Trees.{StageTree, BookTree}
-use Rattle.sl_stages.specs.book.Typing.{Column, columns_of}
+use Rattle.sl_law_meaning.specs.book.Trees.{StageTree, BookTree}
+use Rattle.sl_law_meaning.specs.book.Typing.{Column, columns_of}
 use Rattle.sl_code_instructions.specs.declared.code.CodeStage.{CodeStage}
 use Rattle.sl_code_instructions.specs.declared.instr.Instr.{Instr}
 use Rattle.sl_code_instructions.specs.Codes.{CountingCode}

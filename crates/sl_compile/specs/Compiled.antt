@@ -1,14 +1,14 @@
 -- What it is for a counting code to count as a rulebook means (docs/compiler.md, section 8).
 use Rattle.std.specs.Prelude.{◌≡◌, ◌↔◌, ℕ, [], Option, Some, length, map, slice_get}
-use Rattle.sl_stages.specs.declared.table.Outcome.{Outcome}
-use Rattle.sl_stages.specs.declared.table.Outcome.TheVariants as outcome
-use Rattle.sl_stages.specs.book.Trees.{BookTree}
-use Rattle.sl_stages.specs.book.Typing.{columns_of}
-use Rattle.sl_stages.specs.returns.Election.{Election, IsElection}
-use Rattle.sl_stages.specs.meaning.Columns.{NamedColumn}
-use Rattle.sl_stages.specs.meaning.Tables.{SeatTable}
-use Rattle.sl_stages.specs.meaning.Means.{Known, Through, nothing_known, StagesMean, SameTable, Means}
-use Rattle.sl_stages.specs.laws.MeaningLaws.{RecordsComeOnce}
+use Rattle.sl_law_meaning.specs.declared.table.Outcome.{Outcome}
+use Rattle.sl_law_meaning.specs.declared.table.Outcome.TheVariants as outcome
+use Rattle.sl_law_meaning.specs.book.Trees.{BookTree}
+use Rattle.sl_law_meaning.specs.book.Typing.{columns_of}
+use Rattle.sl_law_meaning.specs.returns.Election.{Election, IsElection}
+use Rattle.sl_law_meaning.specs.meaning.Columns.{NamedColumn}
+use Rattle.sl_law_meaning.specs.meaning.Tables.{SeatTable}
+use Rattle.sl_law_meaning.specs.meaning.Means.{Known, Through, nothing_known, StagesMean, SameTable, Means}
+use Rattle.sl_law_meaning.specs.laws.MeaningLaws.{RecordsComeOnce}
 use Rattle.sl_code_instructions.specs.declared.code.CodeStage.{CodeStage}
 use Rattle.sl_code_instructions.specs.Codes.{CountingCode}
 use Rattle.sl_code_semantics.specs.State.{State, End, Halted, Faulted}

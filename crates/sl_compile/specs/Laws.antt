@@ -1,10 +1,10 @@
 -- The laws of compiled rulebooks: each is the contract of a function of `laws` (docs/compiler.md, section 8).
 use Rattle.std.specs.Prelude.{◌≡◌, ◌≤◌, true, List, length}
 use Rattle.sl_code_instructions.specs.declared.instr.Instr.{Instr}
-use Rattle.sl_stages.specs.declared.book.Cond.{Cond}
-use Rattle.sl_stages.specs.book.Trees.{BookTree}
-use Rattle.sl_stages.specs.book.Typing.{is_typed}
-use Rattle.sl_stages.specs.book.Limits.{is_within_limits}
+use Rattle.sl_law_meaning.specs.declared.book.Cond.{Cond}
+use Rattle.sl_law_meaning.specs.book.Trees.{BookTree}
+use Rattle.sl_law_meaning.specs.book.Typing.{is_typed}
+use Rattle.sl_law_meaning.specs.book.Limits.{is_within_limits}
 use Rattle.sl_code_semantics.specs.WellKinded.{IsWellKinded}
 use Rattle.sl_compile.specs.Conditions.{SayTheSame}
 use Rattle.sl_compile.specs.Codes.{book_code, AreBookInstrs}

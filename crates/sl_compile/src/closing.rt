@@ -2,7 +2,7 @@
 
 ghost use Rattle.std.specs.Prelude.{◌≡◌, [], None, IfOk};
 ghost use Rattle.sl_base_terms.specs.Tests.{first_failing};
-ghost use Rattle.sl_stages.specs.book.Typing.{base_tests};
+ghost use Rattle.sl_law_meaning.specs.book.Typing.{base_tests};
 ghost use Rattle.sl_compile_pieces.specs.closing.Trees.{base_slot, seating_pieces, vacant_pieces, last_pieces, halting};
 ghost use Rattle.sl_blocks.specs.PlanBlocks.{AreBlocks, HasRoom};
 ghost use Rattle.sl_compile.specs.Codes.{HasSoFar};
@@ -12,11 +12,11 @@ ghost use Rattle.sl_compile.specs.inner.Earlier.{columns};
 
 use crate::earlier::Earlier;
 use crate::slots::{FINAL_SEATS, WINNERS};
+use sl_base_quotients::NoMemory;
 use sl_blocks::{copy_block, cover_block, names_block, pair_block, placing_block};
 use sl_code_instructions::Instr;
 use sl_compile_pieces::slots::{ELIGIBLE, NAMES_LEFT, PAIR_NUMBERS, VACANT_SEATS};
-use sl_ratio::NoMemory;
-use sl_stages::{Base, LastClause, Pairing, Seating, Shape};
+use sl_law_meaning::{Base, LastClause, Pairing, Seating, Shape};
 
 /// The slot of the base column: that of a fact, or of a stage.
 fn base_slot(earlier: &Earlier<'_>, base: &Base) -> u8

@@ -1,8 +1,8 @@
 //! The code of a whole rulebook.
 
 ghost use Rattle.std.specs.Prelude.{◌≡◌, [], IfOk, IsTrue};
-ghost use Rattle.sl_stages.specs.book.Books.{book_of};
-ghost use Rattle.sl_stages.specs.book.Typing.{is_typed, columns_of};
+ghost use Rattle.sl_law_meaning.specs.book.Books.{book_of};
+ghost use Rattle.sl_law_meaning.specs.book.Typing.{is_typed, columns_of};
 ghost use Rattle.sl_blocks.specs.inner.Few.{AreSmall, few_of};
 ghost use Rattle.sl_compile.specs.Codes.{AreBookInstrs};
 ghost use Rattle.sl_compile.specs.Compiled.{IsCompiled};
@@ -18,11 +18,11 @@ use crate::facts::lay_facts;
 use crate::naming::code_stages;
 use crate::slots::{add_columns, low_slots};
 use crate::stages::lay_stages;
+use sl_base_quotients::NoMemory;
 use sl_blocks::Easiest;
 use sl_code_instructions::{Code, Instr};
 use sl_code_semantics::Verified;
-use sl_ratio::NoMemory;
-use sl_stages::{Book, CheckedBook, ColumnType, MAX_STAGES, Shape};
+use sl_law_meaning::{Book, CheckedBook, ColumnType, MAX_STAGES, Shape};
 use std::alloc::Global;
 
 /// Appends the blocks of a book and its last instruction, and says what the column of each stage has.

@@ -2,15 +2,15 @@
 
 ghost use Rattle.std.specs.Prelude.{◌≡◌, ◌||◌, ℕ, None};
 ghost use Rattle.sl_base_terms.specs.Tests.{first_failing};
-ghost use Rattle.sl_stages.specs.book.Typing.{condition_tests};
-ghost use Rattle.sl_stages.specs.returns.Election.{Election};
-ghost use Rattle.sl_stages.specs.returns.Facts.{meets, is_eligible};
+ghost use Rattle.sl_law_meaning.specs.book.Typing.{condition_tests};
+ghost use Rattle.sl_law_meaning.specs.returns.Election.{Election};
+ghost use Rattle.sl_law_meaning.specs.returns.Facts.{meets, is_eligible};
 ghost use Rattle.sl_compile.specs.Conditions.{SayTheSame};
 ghost use Rattle.sl_blocks.specs.inner.Few.{few_of, AreSmall};
 ghost use Rattle.sl_compile.specs.inner.Weakest.{is_met, IsFair, IsFairIn, IsFairShare, IsSmallIn};
 
 use sl_blocks::{Easiest, Share};
-use sl_stages::Cond;
+use sl_law_meaning::Cond;
 
 /// The share that is met wherever one of both is.
 fn easier_share(first: Share, second: Share) -> Share

@@ -3,12 +3,12 @@
 ghost use Rattle.std.specs.Prelude.{◌≡◌, ◌≤◌, length, find, position, unwrap_or};
 ghost use Rattle.std.specs.Str.{bytes_eq};
 ghost use Rattle.sl_base_terms.specs.declared.limits.TheConstants.{MAX_STAGES};
-ghost use Rattle.sl_stages.specs.book.Typing.{is_named, type_or_one};
+ghost use Rattle.sl_law_meaning.specs.book.Typing.{is_named, type_or_one};
 ghost use Rattle.sl_compile_pieces.specs.exprs.Slots.{stage_slot};
 ghost use Rattle.sl_compile.specs.inner.Earlier.{columns};
 
 use crate::slots::stage_slot;
-use sl_stages::{ColumnType, Shape, Stage, Word};
+use sl_law_meaning::{ColumnType, Shape, Stage, Word};
 
 /// The stages before some place of a book, and what the column of each has.
 #[derive(Clone, Copy)]

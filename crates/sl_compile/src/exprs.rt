@@ -2,8 +2,8 @@
 
 ghost use Rattle.std.specs.Prelude.{◌≡◌, ◌+◌, ◌<◌, ◌≤◌, ◌++◌, List, IfOk};
 ghost use Rattle.sl_base_terms.specs.declared.limits.TheConstants.{MAX_STAGES};
-ghost use Rattle.sl_stages.specs.book.Typing.{Column, type_of};
-ghost use Rattle.sl_stages.specs.book.Trees.{tree_of};
+ghost use Rattle.sl_law_meaning.specs.book.Typing.{Column, type_of};
+ghost use Rattle.sl_law_meaning.specs.book.Trees.{tree_of};
 ghost use Rattle.sl_compile_pieces.specs.exprs.Pieces.{pieces, slot_of};
 ghost use Rattle.sl_compile.specs.Codes.{HasSoFar};
 ghost use Rattle.sl_blocks.specs.PlanBlocks.{AreBlocks, HasRoom};
@@ -13,10 +13,10 @@ ghost use Rattle.sl_compile.specs.inner.Earlier.{columns, Fits};
 use crate::earlier::Earlier;
 use crate::nodes::{copy, pair, sum};
 use crate::slots::{fact_slot, passing};
+use sl_base_quotients::NoMemory;
 use sl_code_instructions::Instr;
 use sl_compile_pieces::Arguments;
-use sl_ratio::NoMemory;
-use sl_stages::{ColumnType, Expr, MAX_DEPTH, Shape};
+use sl_law_meaning::{ColumnType, Expr, MAX_DEPTH, Shape};
 
 /// Where an expression is laid out: the shapes of the slots below those of the stages, the stages before, and the number of its own stage.
 #[derive(Clone, Copy)]

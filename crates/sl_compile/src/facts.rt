@@ -7,10 +7,10 @@ ghost use Rattle.sl_blocks.specs.Facts.{HasFirstSlots, all_facts};
 ghost use Rattle.sl_blocks.specs.PlanBlocks.{AreBlocks, HasRoom};
 ghost use Rattle.sl_blocks.specs.inner.Few.{AreSmall, few_of};
 
+use sl_base_quotients::NoMemory;
 use sl_blocks::{Easiest, eligible_block, fact_block};
 use sl_code_instructions::Instr;
-use sl_ratio::NoMemory;
-use sl_stages::{FACTS, Fact};
+use sl_law_meaning::{FACTS, Fact};
 
 /// Appends the block of a fact.
 fn lay_fact(code: &mut Vec<Instr>, fact: &Fact, house: u32) -> Result<(), NoMemory>

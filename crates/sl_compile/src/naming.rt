@@ -1,14 +1,14 @@
 //! The stages of a code: their names, and the slots of their columns.
 
 ghost use Rattle.std.specs.Prelude.{◌≡◌, ◌≤◌, All, length, map, IfOk};
-ghost use Rattle.sl_stages.specs.book.Trees.{stage_of};
+ghost use Rattle.sl_law_meaning.specs.book.Trees.{stage_of};
 ghost use Rattle.sl_code_instructions.specs.Proper.{IsStage};
 ghost use Rattle.sl_compile.specs.Codes.{code_stages};
 
 use crate::slots::stage_slot;
+use sl_base_quotients::NoMemory;
 use sl_code_instructions::CodeStage;
-use sl_ratio::NoMemory;
-use sl_stages::{MAX_STAGES, Stage, Word};
+use sl_law_meaning::{MAX_STAGES, Stage, Word};
 use std::alloc::Global;
 
 /// The stages of the code.

@@ -3,8 +3,8 @@
 
 ghost use Rattle.std.specs.Prelude.{◌≡◌, ◌+◌, ◌≤◌, [], ◌∷◌, true, IfOk, IsSome};
 ghost use Rattle.sl_base_terms.specs.declared.shape.Shape.TheVariants as shape;
-ghost use Rattle.sl_stages.specs.declared.book.Unit.TheVariants as unit;
-ghost use Rattle.sl_stages.specs.book.Typing.{can_split, can_sum, column, shape_over};
+ghost use Rattle.sl_law_meaning.specs.declared.book.Unit.TheVariants as unit;
+ghost use Rattle.sl_law_meaning.specs.book.Typing.{can_split, can_sum, column, shape_over};
 ghost use Rattle.sl_blocks.specs.inner.Jobs.{slots_of};
 ghost use Rattle.sl_blocks.specs.PlanBlocks.{AreBlocks, HasCopy, HasRoom};
 ghost use Rattle.sl_compile_pieces.specs.columns.Trees.{copy_tree, pair_tree, sum_tree};
@@ -15,11 +15,11 @@ ghost use Rattle.sl_compile.specs.inner.Nodes.{AreArguments, MayHave};
 
 use crate::exprs::Site;
 use crate::slots::passing;
+use sl_base_quotients::{Method, NoMemory};
 use sl_blocks::{Job, copy_block, grow_block, pair_block, split_block, sum_block};
 use sl_code_instructions::Instr;
 use sl_compile_pieces::Arguments;
-use sl_ratio::{Method, NoMemory};
-use sl_stages::{Axis, ColumnType, MAX_DEPTH, MAX_SEATS, Majority, Pairing, Shape};
+use sl_law_meaning::{Axis, ColumnType, MAX_DEPTH, MAX_SEATS, Majority, Pairing, Shape};
 
 /// Appends the block of a copy of a column.
 pub fn copy(

@@ -4,10 +4,10 @@ ghost use Rattle.std.specs.Prelude.{◌≡◌, ◌<◌, ◌≤◌, ◌++◌, IfO
 ghost use Rattle.sl_compile_pieces.specs.exprs.Slots.{fact_slots, passing, stage_slot};
 ghost use Rattle.sl_compile.specs.inner.Slots.{low_shapes};
 
+use sl_base_quotients::NoMemory;
 use sl_compile_pieces::slots::{FIRST_FACT, FIRST_PASSING_SLOT, FIRST_STAGE_SLOT, LEVELS};
-use sl_ratio::NoMemory;
-use sl_stages::Shape::{Land, List, One, Party};
-use sl_stages::{ColumnType, FACTS, Fact, MAX_DEPTH, MAX_STAGES, Shape};
+use sl_law_meaning::Shape::{Land, List, One, Party};
+use sl_law_meaning::{ColumnType, FACTS, Fact, MAX_DEPTH, MAX_STAGES, Shape};
 use std::alloc::Global;
 
 pub const WINNERS: u8 = FIRST_FACT + Fact::Winners as u8;

@@ -1,10 +1,10 @@
 //! The blocks of a rulebook's stages (docs/compiler.md, section 5).
 
 ghost use Rattle.std.specs.Prelude.{◌≡◌, ◌+◌, [], ◌∷◌, ◌++◌, length, map, None, IfOk, IsTrue};
-ghost use Rattle.sl_stages.specs.book.Trees.{tree_of, stage_of};
-ghost use Rattle.sl_stages.specs.book.Limits.{is_within_limits};
+ghost use Rattle.sl_law_meaning.specs.book.Trees.{tree_of, stage_of};
+ghost use Rattle.sl_law_meaning.specs.book.Limits.{is_within_limits};
 ghost use Rattle.sl_base_terms.specs.Tests.{first_failing};
-ghost use Rattle.sl_stages.specs.book.Typing.{type_of, stage_column, stages_tests, columns_of};
+ghost use Rattle.sl_law_meaning.specs.book.Typing.{type_of, stage_column, stages_tests, columns_of};
 ghost use Rattle.sl_compile_pieces.specs.exprs.Stages.{stage_pieces, stages_pieces};
 ghost use Rattle.sl_compile.specs.Codes.{HasSoFar};
 ghost use Rattle.sl_blocks.specs.PlanBlocks.{AreBlocks, HasRoom};
@@ -14,10 +14,10 @@ ghost use Rattle.sl_compile.specs.inner.Earlier.{columns, Fits};
 use crate::earlier::Earlier;
 use crate::exprs::{Site, column_slot};
 use crate::slots::stage_slot;
+use sl_base_quotients::NoMemory;
 use sl_blocks::copy_block;
 use sl_code_instructions::Instr;
-use sl_ratio::NoMemory;
-use sl_stages::{ColumnType, MAX_STAGES, Shape, Stage};
+use sl_law_meaning::{ColumnType, MAX_STAGES, Shape, Stage};
 
 /// Appends the blocks of a stage's expression, and the copy of its column into the stage's slot, and says what the column has.
 fn lay_stage(code: &mut Vec<Instr>, site: &Site<'_>, stage: &Stage) -> Result<ColumnType, NoMemory>

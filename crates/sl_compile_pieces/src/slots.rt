@@ -1,6 +1,6 @@
 //! The slots of a compiled rulebook, for code and definitions alike (docs/compiler.md, section 3).
 
-use sl_stages::{FACTS, MAX_DEPTH};
+use sl_law_meaning::{FACTS, MAX_DEPTH};
 
 /// The eligible parties.
 pub const ELIGIBLE: u8 = 0;

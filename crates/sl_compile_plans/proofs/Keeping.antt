@@ -3,9 +3,9 @@ use Rattle.std.proofs.Common.{◌≡◌, ℕ, zero, suc, Bool, true, false, ◌=
 use Rattle.std.proofs.lemmas.Bool.{or_parts}
 use Rattle.std.proofs.lemmas.List.{append-nil}
 use Rattle.std.specs.List.{range_with_len, list_any}
-use Rattle.sl_stages.specs.declared.table.SeatStep.{SeatStep}
-use Rattle.sl_stages.specs.declared.table.Weight.{Weight}
-use Rattle.sl_stages.specs.returns.Election.{Election}
+use Rattle.sl_law_meaning.specs.declared.table.SeatStep.{SeatStep}
+use Rattle.sl_law_meaning.specs.declared.table.Weight.{Weight}
+use Rattle.sl_law_meaning.specs.returns.Election.{Election}
 use Rattle.sl_code_instructions.specs.declared.instr.Instr.{Instr}
 use Rattle.sl_code_instructions.specs.declared.instr.Instr.TheVariants as op
 use Rattle.sl_code_instructions.specs.Codes.{CountingCode}

@@ -3,8 +3,8 @@ use Rattle.std.proofs.Common.{◌≡◌, ℕ, suc, ◌+◌, ◌<◌, ◌≤◌, 
 use Rattle.std.specs.List.{list_any, AllByRecursion as Every}
 use Rattle.std.proofs.lemmas.Bool.{or_parts, or_cases, eqb-true}
 use Rattle.std.proofs.lemmas.Option.{slice_get_cases}
-use Rattle.sl_stages.specs.declared.returns.Win.{Win}
-use Rattle.sl_stages.specs.returns.Election.{Election, wins_of}
+use Rattle.sl_law_meaning.specs.declared.election.Win.{Win}
+use Rattle.sl_law_meaning.specs.returns.Election.{Election, wins_of}
 use Rattle.sl_code_instructions.specs.Codes.{CountingCode}
 use Rattle.sl_code_semantics.specs.State.{State, End, with_register}
 use Rattle.sl_code_semantics.specs.Effects.{with_win}

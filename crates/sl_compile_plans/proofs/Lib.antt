@@ -8,7 +8,6 @@ pub mod Rules
 pub mod Keeping
 pub mod KeepingRules
 pub mod Prices
-pub mod Laying
 pub mod Reaching
 pub mod Sums
 pub mod Kinded

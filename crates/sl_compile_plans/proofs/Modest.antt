@@ -3,8 +3,8 @@ use Rattle.std.proofs.Common.{◌≡◌, ℕ, ◌+◌, ◌*◌, ◌<◌, ◌≤�
 use Rattle.std.proofs.Math.Nat.{mul-le-mul_left, mul-le-mul_right}
 use Rattle.std.specs.Prelude.{nat_lt}
 use Rattle.std.proofs.lemmas.Bool.{and_parts, ltb-true}
-use Rattle.sl_ratio.specs.declared.limits.TheConstants.{MAX_SEATS}
-use Rattle.sl_stages.specs.returns.Election.{Election, lands_of, parties_of, wins_of}
+use Rattle.sl_base_quotients.specs.declared.limits.TheConstants.{MAX_SEATS}
+use Rattle.sl_law_meaning.specs.returns.Election.{Election, lands_of, parties_of, wins_of}
 use Rattle.sl_code_semantics.specs.declared.budget.TheConstants.{STEPS_EACH}
 use Rattle.sl_code_semantics.specs.Runs.{share_of}
 use Rattle.sl_compile_plans.specs.Trees.{Tree, size_of}

@@ -1,6 +1,6 @@
 -- Pieces of runs that follow a plan: one after another, single instructions, lines.
 use Rattle.std.proofs.Common.{◌≡◌, ℕ, suc, ◌+◌, ◌≤◌, List, [], ◌∷◌, length, Some, slice_get, refl, subst, arith}
-use Rattle.sl_stages.specs.returns.Election.{Election}
+use Rattle.sl_law_meaning.specs.returns.Election.{Election}
 use Rattle.sl_code_instructions.specs.declared.instr.Instr.{Instr}
 use Rattle.sl_code_instructions.specs.declared.instr.Instr.TheVariants.{Jmp, At}
 use Rattle.sl_code_instructions.specs.declared.kinds.Kinds.{Kinds}

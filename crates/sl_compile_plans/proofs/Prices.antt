@@ -2,8 +2,8 @@
 use Rattle.std.proofs.Common.{◌≡◌, ℕ, ◌+◌, ◌*◌, ◌<◌, ◌≤◌, true, sym, ap, ◌∙◌, arith}
 use Rattle.std.proofs.Math.Nat.{mul-le-mul_left}
 use Rattle.std.proofs.lemmas.Bool.{and_parts, eqb-true, ltb-true}
-use Rattle.sl_ratio.specs.declared.limits.TheConstants.{MAX_SEATS}
-use Rattle.sl_stages.specs.returns.Election.{Election, lands_of, parties_of, wins_of}
+use Rattle.sl_base_quotients.specs.declared.limits.TheConstants.{MAX_SEATS}
+use Rattle.sl_law_meaning.specs.returns.Election.{Election, lands_of, parties_of, wins_of}
 use Rattle.sl_code_semantics.specs.declared.budget.TheConstants.{STEPS_EACH}
 use Rattle.sl_compile_plans.specs.declared.plan.Cursor.{Cursor}
 use Rattle.sl_compile_plans.specs.declared.plan.Cursor.TheVariants as cursor

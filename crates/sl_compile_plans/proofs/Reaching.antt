@@ -1,6 +1,6 @@
 -- What a plan achieves the machine does, wherever the plan's instructions stand.
 use Rattle.std.proofs.Common.{ℕ, ◌+◌, inl, inr}
-use Rattle.sl_stages.specs.returns.Election.{Election}
+use Rattle.sl_law_meaning.specs.returns.Election.{Election}
 use Rattle.sl_code_instructions.specs.declared.kinds.Kinds.{Kinds}
 use Rattle.sl_code_instructions.specs.Codes.{CountingCode}
 use Rattle.sl_code_instructions.specs.Standing.{HasAt}

@@ -2,12 +2,12 @@
 use Rattle.std.proofs.Common.{◌≡◌, ◌⊎◌, ℕ, zero, suc, ◌+◌, ◌-◌, ◌<◌, ◌≤◌, Bool, true, false, ◌==◌, List, [], ◌∷◌, length, Option, Some, None, if◌then◌else◌, refl, sym, ap, subst, ◌∙◌, inl, inr, arith}
 use Rattle.std.specs.List.{range_with_len}
 use Rattle.std.proofs.lemmas.Bool.{cases_Bool, cases_lt, eq-eqb}
-use Rattle.sl_ratio.specs.declared.entry.Entry.{Entry}
-use Rattle.sl_stages.specs.declared.returns.Win.{Win}
-use Rattle.sl_stages.specs.returns.Election.{Election, has_list}
+use Rattle.sl_base_quotients.specs.declared.entry.Entry.{Entry}
+use Rattle.sl_law_meaning.specs.declared.election.Win.{Win}
+use Rattle.sl_law_meaning.specs.returns.Election.{Election, has_list}
 use Rattle.sl_code_instructions.specs.declared.instr.Instr.{Instr}
 use Rattle.sl_code_instructions.specs.Codes.{CountingCode}
-use Rattle.sl_prio.specs.Prio.{top, peers, is_covered}
+use Rattle.sl_base_rankings.specs.Peers.{top, peers, is_covered}
 use Rattle.sl_code_semantics.specs.State.{State, End, PriorityTable, with_register}
 use Rattle.sl_code_semantics.specs.Drawn.{lot_of}
 use Rattle.sl_code_semantics.specs.Effects.{Effect, Goes, Jumps, Ends, effect, with_party, winner_at, name_of}

@@ -1,6 +1,6 @@
 -- What is shown of a plan: it goes on in a state of which one thing holds, or ends the run so that another holds (docs/plans.md, section 5).
 use Rattle.std.specs.Prelude.{ℕ, ◌⊎◌}
-use Rattle.sl_stages.specs.returns.Election.{Election}
+use Rattle.sl_law_meaning.specs.returns.Election.{Election}
 use Rattle.sl_code_instructions.specs.Codes.{CountingCode}
 use Rattle.sl_code_semantics.specs.State.{State, End}
 use Rattle.sl_code_semantics.specs.Comes.{Comes, Finishes}

@@ -1,6 +1,6 @@
 -- What is shown of costs: a plan costs its price, and where no number of that is above a share's, it takes at most a share (docs/plans.md, section 7).
 use Rattle.std.specs.Prelude.{◌≡◌, ◌≤◌, true}
-use Rattle.sl_stages.specs.returns.Election.{Election, lands_of, parties_of, wins_of}
+use Rattle.sl_law_meaning.specs.returns.Election.{Election, lands_of, parties_of, wins_of}
 use Rattle.sl_code_semantics.specs.Runs.{share_of}
 use Rattle.sl_compile_plans.specs.Trees.{Tree}
 use Rattle.sl_compile_plans.specs.Meaning.{cost}

@@ -1,6 +1,6 @@
 -- What it is for the machine to do what a plan says (docs/plans.md, section 4).
 use Rattle.std.specs.Prelude.{ℕ, ◌+◌}
-use Rattle.sl_stages.specs.returns.Election.{Election}
+use Rattle.sl_law_meaning.specs.returns.Election.{Election}
 use Rattle.sl_code_instructions.specs.declared.kinds.Kinds.{Kinds}
 use Rattle.sl_code_instructions.specs.Codes.{CountingCode}
 use Rattle.sl_code_instructions.specs.Standing.{HasAt}

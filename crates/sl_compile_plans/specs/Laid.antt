@@ -1,6 +1,6 @@
 -- Plans after a declaration, one after the other: what is laid out, and what they achieve together (docs/plans.md, section 10).
 use Rattle.std.specs.Prelude.{ℕ, ◌+◌, List, [], ◌∷◌}
-use Rattle.sl_stages.specs.returns.Election.{Election}
+use Rattle.sl_law_meaning.specs.returns.Election.{Election}
 use Rattle.sl_code_instructions.specs.declared.instr.Instr.{Instr}
 use Rattle.sl_code_instructions.specs.declared.instr.Instr.TheVariants.{At}
 use Rattle.sl_code_instructions.specs.Codes.{CountingCode}

@@ -9,4 +9,3 @@ pub mod Frames
 pub mod Laid
 pub mod Sums
 pub mod Fine
-pub mod inner

@@ -1,6 +1,6 @@
 -- What a plan costs, as numbers: so many steps, so many for each party, for each Land, for each pair of both, and the same for each winner.
 use Rattle.std.specs.Prelude.{ℕ, ◌+◌, ◌*◌, Bool, true, ◌==◌, ◌&&◌, nat_lt, length}
-use Rattle.sl_ratio.specs.declared.limits.TheConstants.{MAX_SEATS}
+use Rattle.sl_base_quotients.specs.declared.limits.TheConstants.{MAX_SEATS}
 use Rattle.sl_code_semantics.specs.declared.budget.TheConstants.{STEPS_EACH}
 use Rattle.sl_compile_plans.specs.declared.plan.Cursor.{Cursor}
 use Rattle.sl_compile_plans.specs.declared.plan.Cursor.TheVariants as cursor

@@ -2,7 +2,7 @@
 use Rattle.std.specs.Prelude.{◌≡◌, ℕ, ◌+◌, ◌*◌, ◌≤◌, [], ◌∷◌, map, Some, slice_get}
 use Rattle.std.specs.List.{sum, range_with_len}
 use Rattle.sl_base_terms.specs.declared.shape.Shape.TheVariants as shape
-use Rattle.sl_stages.specs.returns.Election.{Election, lands_of, parties_of}
+use Rattle.sl_law_meaning.specs.returns.Election.{Election, lands_of, parties_of}
 use Rattle.sl_code_instructions.specs.declared.instr.Instr.TheVariants.{Set, Get, Add}
 use Rattle.sl_code_instructions.specs.declared.kinds.Kinds.{Kinds}
 use Rattle.sl_code_instructions.specs.Codes.{CountingCode}

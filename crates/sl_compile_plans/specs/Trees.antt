@@ -4,7 +4,7 @@ use Rattle.sl_code_instructions.specs.declared.instr.Instr.{Instr}
 use Rattle.sl_code_instructions.specs.declared.instr.Instr.TheVariants.{Set, Sub, Jmp, Jz, Jlt, Jnl, Wparty, Fparty, Nparty, Fland, Nland, Fwin, Nwin, Peers, Lot, At}
 use Rattle.sl_code_instructions.specs.declared.kinds.Kinds.{Kinds}
 use Rattle.sl_code_semantics.specs.Leaves.{cursors_behind, cursors_carried, table_behind, with_party, with_land, with_win, with_ready}
-use Rattle.sl_compile_plans.specs.declared.emitter.TheConstants.{ONES}
+use Rattle.sl_compile_plans.specs.declared.plan.TheConstants.{ONES}
 use Rattle.sl_compile_plans.specs.declared.plan.Test.{Test}
 use Rattle.sl_compile_plans.specs.declared.plan.Test.TheVariants as test
 use Rattle.sl_compile_plans.specs.declared.plan.Cursor.{Cursor}

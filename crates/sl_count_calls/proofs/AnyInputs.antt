@@ -6,9 +6,9 @@ use Rattle.sl_count_calls.specs.Reading.{IsNoGoodBook as IsNone, ReadsAfter}
 use Rattle.sl_count_calls.specs.declared.counting.Counting.{Counting}
 use Rattle.sl_count_calls.specs.declared.judged.Judged.TheVariants as judged
 use Rattle.sl_count_calls.specs.declared.judged.Judged.{Judged}
-use Rattle.sl_stages.specs.declared.count.Records.{Records}
+use Rattle.sl_law_meaning.specs.declared.count.Records.{Records}
 use Rattle.sl_count_calls.specs.Counting.{IsNoGoodBook}
-use Rattle.sl_stages.specs.meaning.Counts.{IsMeantEnd}
+use Rattle.sl_law_meaning.specs.meaning.Counts.{IsMeantEnd}
 use Rattle.sl_count_calls.specs.Showing.{IsNoBookWith, IsNumbered, unknown_stage}
 use Rattle.sl_count_calls.specs.declared.answer.Answer.{Answer}
 use Rattle.sl_count_calls.specs.Shows.{IsShownOutput, ReadsBehindShown}
@@ -30,9 +30,9 @@ use Rattle.sl_count_inputs.specs.declared.status.Input.TheVariants as input
 use Rattle.sl_count_inputs.specs.declared.status.Status.TheVariants as status
 use Rattle.sl_count_inputs.specs.declared.status.Status.{Status}
 use Rattle.sl_count_inputs.specs.declared.verdict.Verdict.TheVariants.{Good, Refused}
-use Rattle.sl_stages.specs.book.Books.{book_of}
-use Rattle.sl_stages.specs.book.Trees.{BookTree}
-use Rattle.sl_stages.specs.returns.Election.{Election}
+use Rattle.sl_law_meaning.specs.book.Books.{book_of}
+use Rattle.sl_law_meaning.specs.book.Trees.{BookTree}
+use Rattle.sl_law_meaning.specs.returns.Election.{Election}
 
 -- ---- a stage by its name
 

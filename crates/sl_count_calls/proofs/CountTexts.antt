@@ -4,12 +4,12 @@ use Rattle.std.proofs.lemmas.List.{length-map}
 use Rattle.std.proofs.lemmas.Option.{slice_get-get_or}
 use Rattle.sl_compile.proofs.rulebooks.Known.{known_types}
 use Rattle.sl_count_calls.specs.Outcomes.{FitsCounted, code_names}
-use Rattle.sl_stages.specs.meaning.Counts.{HoldsStages, IsMeantEnd, kept_table}
-use Rattle.sl_stages.specs.declared.count.Column.{Column}
-use Rattle.sl_stages.specs.declared.count.Counted.{Counted}
-use Rattle.sl_stages.specs.declared.count.End.TheVariants as end
-use Rattle.sl_stages.specs.declared.count.Records.TheVariants.{Dropped, Kept}
-use Rattle.sl_stages.specs.declared.count.Records.{Records}
+use Rattle.sl_law_meaning.specs.meaning.Counts.{HoldsStages, IsMeantEnd, kept_table}
+use Rattle.sl_law_meaning.specs.declared.count.Column.{Column}
+use Rattle.sl_law_meaning.specs.declared.count.Counted.{Counted}
+use Rattle.sl_law_meaning.specs.declared.count.End.TheVariants as end
+use Rattle.sl_law_meaning.specs.declared.count.Records.TheVariants.{Dropped, Kept}
+use Rattle.sl_law_meaning.specs.declared.count.Records.{Records}
 use Rattle.sl_count_calls.proofs.OneMeaning.{same_short}
 use Rattle.sl_count_calls.specs.Counting.{IsTableText}
 use Rattle.sl_count_calls.specs.Reports.{IsReported}
@@ -19,11 +19,11 @@ use Rattle.sl_count_calls.specs.declared.report.Report.{Report}
 use Rattle.sl_count_calls.specs.inner.Texts.{HasColumn, HasStage, IsColumnOf, IsCountedText, SuitsReport}
 use Rattle.sl_count_inputs.specs.StageNames.{names_of}
 use Rattle.sl_code_instructions.specs.Codes.{CountingCode}
-use Rattle.sl_stages.specs.book.Trees.{BookTree, StageTree}
-use Rattle.sl_stages.specs.book.Typing.{Column as TypedColumn, columns_of}
-use Rattle.sl_stages.specs.meaning.Columns.{NamedColumn}
-use Rattle.sl_stages.specs.meaning.Tables.{SeatTable}
-use Rattle.sl_stages.specs.returns.Election.{Election}
+use Rattle.sl_law_meaning.specs.book.Trees.{BookTree, StageTree}
+use Rattle.sl_law_meaning.specs.book.Typing.{Column as TypedColumn, columns_of}
+use Rattle.sl_law_meaning.specs.meaning.Columns.{NamedColumn}
+use Rattle.sl_law_meaning.specs.meaning.Tables.{SeatTable}
+use Rattle.sl_law_meaning.specs.returns.Election.{Election}
 use Rattle.sl_table.specs.Stages.{stage_text}
 use Rattle.sl_count_texts.specs.Short.{short_text}
 use Rattle.sl_count_texts.specs.Steps.{IsStepsText}

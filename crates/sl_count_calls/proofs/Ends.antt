@@ -5,12 +5,12 @@ use Rattle.sl_compile.specs.Compiled.{ComesTo, IsCompiled, ending_by}
 use Rattle.sl_count_calls.proofs.StageColumns.{all_long, each_stage, holds_stages}
 use Rattle.sl_count_calls.specs.Outcomes.{FitsEnd, FitsOutcome}
 use Rattle.sl_count_calls.specs.inner.Held.{EndsAs, Holds, recorded}
-use Rattle.sl_stages.specs.meaning.Counts.{IsMeantEnd}
-use Rattle.sl_stages.specs.declared.count.Counted.{Counted as Kept}
-use Rattle.sl_stages.specs.declared.count.End.TheVariants as end
-use Rattle.sl_stages.specs.declared.count.End.{End as Ends}
-use Rattle.sl_stages.specs.declared.count.Records.TheVariants.{Dropped, Kept as WithRecords}
-use Rattle.sl_stages.specs.declared.count.Records.{Records}
+use Rattle.sl_law_meaning.specs.meaning.Counts.{IsMeantEnd}
+use Rattle.sl_law_meaning.specs.declared.count.Counted.{Counted as Kept}
+use Rattle.sl_law_meaning.specs.declared.count.End.TheVariants as end
+use Rattle.sl_law_meaning.specs.declared.count.End.{End as Ends}
+use Rattle.sl_law_meaning.specs.declared.count.Records.TheVariants.{Dropped, Kept as WithRecords}
+use Rattle.sl_law_meaning.specs.declared.count.Records.{Records}
 use Rattle.sl_code_instructions.specs.Codes.{CountingCode}
 use Rattle.sl_machine.specs.Answers.{answer_of}
 use Rattle.sl_machine.specs.Fits.{Fits}
@@ -22,15 +22,15 @@ use Rattle.sl_code_semantics.specs.Runs.{Ended}
 use Rattle.sl_code_semantics.specs.State.{End, Faulted, Halted, State}
 use Rattle.sl_code_semantics.specs.Tables.{held_table}
 use Rattle.sl_code_semantics.specs.Unrecorded.{unrecorded}
-use Rattle.sl_stages.proofs.meaning.MeaningProofs.{any_order, some_outcome, table-sym}
-use Rattle.sl_stages.specs.book.Trees.{BookTree}
-use Rattle.sl_stages.specs.book.Typing.{is_typed}
-use Rattle.sl_stages.specs.declared.fault.LegalFault.{LegalFault}
-use Rattle.sl_stages.specs.declared.table.Outcome.TheVariants as outcome
-use Rattle.sl_stages.specs.declared.table.Outcome.{Outcome as Meant}
-use Rattle.sl_stages.specs.meaning.Means.{Means}
-use Rattle.sl_stages.specs.meaning.Tables.{SeatTable}
-use Rattle.sl_stages.specs.returns.Election.{Election, IsElection}
+use Rattle.sl_law_meaning.proofs.meaning.MeaningProofs.{any_order, some_outcome, table-sym}
+use Rattle.sl_law_meaning.specs.book.Trees.{BookTree}
+use Rattle.sl_law_meaning.specs.book.Typing.{is_typed}
+use Rattle.sl_law_meaning.specs.declared.fault.LegalFault.{LegalFault}
+use Rattle.sl_law_meaning.specs.declared.table.Outcome.TheVariants as outcome
+use Rattle.sl_law_meaning.specs.declared.table.Outcome.{Outcome as Meant}
+use Rattle.sl_law_meaning.specs.meaning.Means.{Means}
+use Rattle.sl_law_meaning.specs.meaning.Tables.{SeatTable}
+use Rattle.sl_law_meaning.specs.returns.Election.{Election, IsElection}
 
 held_same : (h k : Held) → answer.Done h ≡ answer.Done k → h ≡ k
 held_same h k e = cc

@@ -1,18 +1,18 @@
 -- A well-formed book has at most one text on an election.
 use Rattle.std.proofs.Common.{◌≡◌, ℕ, true, List, slice_get, sym, ap, ◌∙◌, inl, inr}
 use Rattle.std.proofs.lemmas.Option.{same_Some}
-use Rattle.sl_stages.specs.declared.table.Outcome.TheVariants as outcome
-use Rattle.sl_stages.specs.book.Trees.{BookTree}
-use Rattle.sl_stages.specs.book.Typing.{Column, is_typed}
-use Rattle.sl_stages.specs.returns.Election.{Election, IsElection}
-use Rattle.sl_stages.specs.meaning.Tables.{SeatTable}
-use Rattle.sl_stages.specs.meaning.Columns.{NamedColumn}
-use Rattle.sl_stages.specs.meaning.Means.{Known, Through, nothing_known, StagesMean, SameTable}
-use Rattle.sl_stages.specs.laws.MeaningLaws.{RecordsComeOnce}
-use Rattle.sl_stages.proofs.meaning.ExactlyOne.{same_ones}
-use Rattle.sl_stages.proofs.meaning.MeaningProofs.{at_most_one_outcome}
-use Rattle.sl_stages.proofs.meaning.OneOutcome.{one_stages_result}
-use Rattle.sl_stages.proofs.meaning.RecordsOnce.{records_once}
+use Rattle.sl_law_meaning.specs.declared.table.Outcome.TheVariants as outcome
+use Rattle.sl_law_meaning.specs.book.Trees.{BookTree}
+use Rattle.sl_law_meaning.specs.book.Typing.{Column, is_typed}
+use Rattle.sl_law_meaning.specs.returns.Election.{Election, IsElection}
+use Rattle.sl_law_meaning.specs.meaning.Tables.{SeatTable}
+use Rattle.sl_law_meaning.specs.meaning.Columns.{NamedColumn}
+use Rattle.sl_law_meaning.specs.meaning.Means.{Known, Through, nothing_known, StagesMean, SameTable}
+use Rattle.sl_law_meaning.specs.laws.MeaningLaws.{RecordsComeOnce}
+use Rattle.sl_law_meaning.proofs.meaning.ExactlyOne.{same_ones}
+use Rattle.sl_law_meaning.proofs.meaning.MeaningProofs.{at_most_one_outcome}
+use Rattle.sl_law_meaning.proofs.meaning.OneOutcome.{one_stages_result}
+use Rattle.sl_law_meaning.proofs.meaning.RecordsOnce.{records_once}
 use Rattle.sl_count_texts.proofs.AnyOrder.{same_text}
 use Rattle.sl_count_texts.specs.Short.{short_text}
 use Rattle.sl_table.specs.Stages.{stage_text}

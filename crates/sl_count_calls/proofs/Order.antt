@@ -5,7 +5,7 @@ use Rattle.sl_count_calls.specs.Reading.{IsNoGoodBook, ReadsAfter}
 use Rattle.sl_count_calls.specs.declared.judged.Judged.TheVariants.{BookRefused, Counted, ReturnsRefused, StageUnknown}
 use Rattle.sl_count_calls.specs.declared.judged.Judged.{Judged}
 use Rattle.sl_count_calls.specs.declared.reading.Read.{Read}
-use Rattle.sl_stages.specs.declared.count.Records.{Records}
+use Rattle.sl_law_meaning.specs.declared.count.Records.{Records}
 use Rattle.sl_count_inputs.specs.Books.{BookInput, IsBookVerdict}
 use Rattle.sl_count_inputs.specs.Failures.{Counts, counts, counts_after}
 use Rattle.sl_count_inputs.specs.Reading.{ForKnown, ReadsBehind, TakesAtMost}
@@ -15,7 +15,7 @@ use Rattle.sl_count_inputs.specs.declared.status.DeskError.{DeskError}
 use Rattle.sl_count_inputs.specs.declared.status.Input.TheVariants.{Before, Book, Code, Names, Returns}
 use Rattle.sl_count_inputs.specs.declared.status.Input.{Input}
 use Rattle.sl_count_inputs.specs.declared.verdict.Verdict.TheVariants.{Good}
-use Rattle.sl_stages.specs.book.Trees.{BookTree}
+use Rattle.sl_law_meaning.specs.book.Trees.{BookTree}
 
 -- ---- returns that are read after a good input
 

@@ -9,18 +9,18 @@ use Rattle.sl_compile.specs.Compiled.{HasStageColumns, IsCompiled, ending_by}
 use Rattle.sl_count_calls.proofs.Maps.{map_twice, maps_same}
 use Rattle.sl_count_calls.specs.Outcomes.{IsLong}
 use Rattle.sl_count_calls.specs.inner.Held.{Cells, HasSlots, held_column, plain}
-use Rattle.sl_stages.specs.meaning.Counts.{HoldsStages}
-use Rattle.sl_stages.specs.declared.count.Column.{Column}
+use Rattle.sl_law_meaning.specs.meaning.Counts.{HoldsStages}
+use Rattle.sl_law_meaning.specs.declared.count.Column.{Column}
 use Rattle.sl_code_instructions.specs.Codes.{CountingCode}
 use Rattle.sl_code_instructions.specs.declared.code.CodeStage.{CodeStage}
 use Rattle.sl_code_semantics.specs.Memories.{Held, column_of, held_of}
 use Rattle.sl_code_semantics.specs.Places.{cells_of}
 use Rattle.sl_code_semantics.specs.Runs.{Ended}
 use Rattle.sl_code_semantics.specs.State.{Halted, State}
-use Rattle.sl_stages.specs.book.Trees.{BookTree}
-use Rattle.sl_stages.specs.book.Typing.{Column as TypedColumn, columns_of}
-use Rattle.sl_stages.specs.meaning.Columns.{NamedColumn}
-use Rattle.sl_stages.specs.returns.Election.{Election, IsElection}
+use Rattle.sl_law_meaning.specs.book.Trees.{BookTree}
+use Rattle.sl_law_meaning.specs.book.Typing.{Column as TypedColumn, columns_of}
+use Rattle.sl_law_meaning.specs.meaning.Columns.{NamedColumn}
+use Rattle.sl_law_meaning.specs.returns.Election.{Election, IsElection}
 use Rattle.sl_table.proofs.StageSlots.{column_length}
 use Rattle.sl_base_terms.specs.declared.shape.Shape.TheVariants as shape
 

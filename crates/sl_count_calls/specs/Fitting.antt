@@ -3,9 +3,9 @@ use Rattle.std.specs.Prelude.{◌≡◌}
 use Rattle.sl_count_calls.specs.Outcomes.{FitsOutcome}
 use Rattle.sl_count_calls.specs.declared.judged.Judged.TheVariants.{Counted}
 use Rattle.sl_count_calls.specs.declared.judged.Judged.{Judged}
-use Rattle.sl_stages.specs.book.Books.{book_of}
-use Rattle.sl_stages.specs.declared.count.Records.{Records}
-use Rattle.sl_stages.specs.meaning.Counts.{IsMeantEnd}
+use Rattle.sl_law_meaning.specs.book.Books.{book_of}
+use Rattle.sl_law_meaning.specs.declared.count.Records.{Records}
+use Rattle.sl_law_meaning.specs.meaning.Counts.{IsMeantEnd}
 
 -- whatever inputs came to it: it has these records, and its outcome fits its book and its returns, and is what the one means on the other
 abbrev pub FitsJudged : Records → Judged → Type 0

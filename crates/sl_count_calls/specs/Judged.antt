@@ -3,16 +3,16 @@ use Rattle.std.specs.Prelude.{List, None, Option, Some, if◌then◌else◌, is_
 use Rattle.sl_count_calls.specs.declared.counting.Counting.{Counting}
 use Rattle.sl_count_calls.specs.declared.judged.Judged.TheVariants.{BookRefused, Counted, ReturnsRefused, StageUnknown}
 use Rattle.sl_count_calls.specs.declared.judged.Judged.{Judged}
-use Rattle.sl_stages.specs.meaning.Counts.{IsMeantEnd}
-use Rattle.sl_stages.specs.declared.count.Records.{Records}
+use Rattle.sl_law_meaning.specs.meaning.Counts.{IsMeantEnd}
+use Rattle.sl_law_meaning.specs.declared.count.Records.{Records}
 use Rattle.sl_count_inputs.specs.Books.{BookInput, IsBookVerdict}
 use Rattle.sl_count_inputs.specs.Judging.{refusal_of, returns_refusal_of}
 use Rattle.sl_count_inputs.specs.Returns.{IsReturnsVerdict}
 use Rattle.sl_count_inputs.specs.StageNames.{stage_number}
 use Rattle.sl_count_inputs.specs.declared.verdict.Verdict.TheVariants.{Good, Refused}
-use Rattle.sl_stages.specs.book.Books.{book_of}
-use Rattle.sl_stages.specs.book.Trees.{BookTree}
-use Rattle.sl_stages.specs.returns.Election.{Election}
+use Rattle.sl_law_meaning.specs.book.Books.{book_of}
+use Rattle.sl_law_meaning.specs.book.Trees.{BookTree}
+use Rattle.sl_law_meaning.specs.returns.Election.{Election}
 
 -- the name that is asked for, if there is one and no stage of the book has it
 abbrev pub unknown_in : Option (List ℕ) → BookTree → Option (List ℕ)

@@ -1,16 +1,16 @@
 -- What the outcome of a count has, whatever it means: the names of the stages, and what texts are made of.
 use Rattle.std.specs.Prelude.{All, List, length, map, ◌≡◌, ℕ}
 use Rattle.sl_count_calls.specs.declared.outcome.Outcome.{Outcome}
-use Rattle.sl_stages.specs.declared.count.Column.{Column}
-use Rattle.sl_stages.specs.declared.count.Counted.{Counted as Kept}
-use Rattle.sl_stages.specs.declared.count.End.TheVariants.{Counted, Fault}
-use Rattle.sl_stages.specs.declared.count.End.{End}
+use Rattle.sl_law_meaning.specs.declared.count.Column.{Column}
+use Rattle.sl_law_meaning.specs.declared.count.Counted.{Counted as Kept}
+use Rattle.sl_law_meaning.specs.declared.count.End.TheVariants.{Counted, Fault}
+use Rattle.sl_law_meaning.specs.declared.count.End.{End}
 use Rattle.sl_count_inputs.specs.StageNames.{names_of}
 use Rattle.sl_code_instructions.specs.Codes.{CountingCode}
 use Rattle.sl_code_semantics.specs.Fits.{FitsFault, FitsRecords}
 use Rattle.sl_code_semantics.specs.Places.{cells_of}
-use Rattle.sl_stages.specs.book.Trees.{BookTree}
-use Rattle.sl_stages.specs.returns.Election.{Election}
+use Rattle.sl_law_meaning.specs.book.Trees.{BookTree}
+use Rattle.sl_law_meaning.specs.returns.Election.{Election}
 use Rattle.sl_count_texts.specs.inner.Fits.{Fits}
 
 -- the names of a code's stages

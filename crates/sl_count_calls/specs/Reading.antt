@@ -6,7 +6,7 @@ use Rattle.sl_count_inputs.specs.Reading.{ReadsBehind}
 use Rattle.sl_count_inputs.specs.declared.status.DeskError.{DeskError}
 use Rattle.sl_count_inputs.specs.declared.status.Input.TheVariants as input
 use Rattle.sl_count_inputs.specs.declared.verdict.Verdict.TheVariants.{Good}
-use Rattle.sl_stages.specs.book.Trees.{BookTree}
+use Rattle.sl_law_meaning.specs.book.Trees.{BookTree}
 
 -- no tree that has what is asked for makes the input a good book
 abbrev pub IsNoGoodBook : Option (List ℕ) → BookInput → Type 0

@@ -1,8 +1,8 @@
 -- What each report shows of a table (docs/output.md).
 use Rattle.std.specs.Prelude.{ℕ, List}
-use Rattle.sl_stages.specs.book.Trees.{BookTree}
-use Rattle.sl_stages.specs.meaning.Tables.{SeatTable}
-use Rattle.sl_stages.specs.returns.Election.{Election}
+use Rattle.sl_law_meaning.specs.book.Trees.{BookTree}
+use Rattle.sl_law_meaning.specs.meaning.Tables.{SeatTable}
+use Rattle.sl_law_meaning.specs.returns.Election.{Election}
 use Rattle.sl_count_calls.specs.declared.report.Report.{Report}
 use Rattle.sl_count_calls.specs.declared.report.Report.TheVariants.{Seats, Steps, Stage}
 use Rattle.sl_count_calls.specs.Showing.{ShowsColumn}

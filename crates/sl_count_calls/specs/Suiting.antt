@@ -4,8 +4,8 @@ use Rattle.sl_count_calls.specs.declared.view.View.TheVariants.{Steps}
 use Rattle.sl_count_calls.specs.declared.view.View.{View}
 use Rattle.sl_count_calls.specs.Fitting.{FitsJudged}
 use Rattle.sl_count_calls.specs.declared.judged.Judged.{Judged}
-use Rattle.sl_stages.specs.declared.count.Records.TheVariants.{Kept}
-use Rattle.sl_stages.specs.declared.count.Records.{Records}
+use Rattle.sl_law_meaning.specs.declared.count.Records.TheVariants.{Kept}
+use Rattle.sl_law_meaning.specs.declared.count.Records.{Records}
 
 -- records that do for it: steps are shown where they are kept
 abbrev pub Suits : View → Records → Type 0

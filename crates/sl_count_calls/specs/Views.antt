@@ -2,8 +2,8 @@
 use Rattle.std.specs.Prelude.{List, None, Option, Some, ◌≡◌, ℕ}
 use Rattle.sl_count_calls.specs.Judged.{IsJudged}
 use Rattle.sl_count_calls.specs.declared.judged.Judged.{Judged}
-use Rattle.sl_stages.specs.declared.count.Records.TheVariants.{Dropped, Kept}
-use Rattle.sl_stages.specs.declared.count.Records.{Records}
+use Rattle.sl_law_meaning.specs.declared.count.Records.TheVariants.{Dropped, Kept}
+use Rattle.sl_law_meaning.specs.declared.count.Records.{Records}
 use Rattle.sl_count_calls.specs.Counting.{IsTreeOutput, ShowsSeats}
 use Rattle.sl_count_calls.specs.Showing.{ShowsColumn, unknown_stage}
 use Rattle.sl_count_calls.specs.Shows.{IsShownOutput}
@@ -15,8 +15,8 @@ use Rattle.sl_count_inputs.specs.StageNames.{stage_number}
 use Rattle.sl_count_inputs.specs.declared.status.Status.TheVariants as status
 use Rattle.sl_count_inputs.specs.declared.status.Status.{Status}
 use Rattle.sl_count_inputs.specs.declared.verdict.Verdict.TheVariants.{Good}
-use Rattle.sl_stages.specs.book.Trees.{BookTree}
-use Rattle.sl_stages.specs.returns.Election.{Election}
+use Rattle.sl_law_meaning.specs.book.Trees.{BookTree}
+use Rattle.sl_law_meaning.specs.returns.Election.{Election}
 
 -- the records that it needs
 abbrev pub records_for : View → Records

@@ -4,9 +4,9 @@ ghost use Rattle.std.specs.Prelude.{◌≡◌, ◌<◌, IfOk, length, map};
 ghost use Rattle.sl_code_semantics.specs.Fits.{FitsMemory};
 ghost use Rattle.sl_count_calls.specs.inner.Held.{HasSlots, held_column, plain};
 
+use sl_base_quotients::NoMemory;
 use sl_code_instructions::Code;
 use sl_machine::Memory;
-use sl_ratio::NoMemory;
 use sl_stages::{Column, Returns};
 use std::alloc::Global;
 

@@ -5,15 +5,15 @@ ghost use Rattle.sl_count_calls.specs.Fitting.{FitsJudged};
 ghost use Rattle.sl_count_calls.specs.Judged.{IsCounting, IsJudged, IsJudgedOn, unknown_in};
 ghost use Rattle.sl_count_calls.specs.declared.judged.Judged.TheVariants as judged;
 ghost use Rattle.sl_count_inputs.specs.Judging.{input_of};
-ghost use Rattle.sl_stages.specs.book.Books.{book_of};
+ghost use Rattle.sl_law_meaning.specs.book.Books.{book_of};
 
 use crate::counting::Counting;
 use crate::outcome::outcome_of;
+use sl_base_quotients::NoMemory;
 use sl_check::CheckedBook;
 use sl_count_inputs::{
     BookText, RefusedBook, RefusedElection, Verdict, judge_book, judge_returns, stage_number,
 };
-use sl_ratio::NoMemory;
 use sl_stages::{Book, Records, Returns};
 use std::alloc::Global;
 

@@ -1,24 +1,24 @@
 //! What a rulebook comes to on returns: its code is run with its budget.
 
 ghost use Rattle.std.specs.Prelude.{◌≡◌, ◌≢◌, IfOk, Some, length};
-ghost use Rattle.sl_stages.specs.meaning.Counts.{IsMeantEnd};
+ghost use Rattle.sl_law_meaning.specs.meaning.Counts.{IsMeantEnd};
 ghost use Rattle.sl_machine.specs.Answers.{answer_of};
 ghost use Rattle.sl_machine.specs.Fits.{Fits};
 ghost use Rattle.sl_machine.specs.declared.machine.Ending.TheVariants as answer;
 ghost use Rattle.sl_code_semantics.specs.Fits.{FitsMemory};
 ghost use Rattle.sl_code_semantics.specs.Runs.{budget_of, ending};
-ghost use Rattle.sl_stages.specs.book.Books.{book_of};
-ghost use Rattle.sl_stages.specs.returns.Election.{IsElection};
+ghost use Rattle.sl_law_meaning.specs.book.Books.{book_of};
+ghost use Rattle.sl_law_meaning.specs.returns.Election.{IsElection};
 ghost use Rattle.sl_count_calls.specs.Outcomes.{FitsOutcome};
 ghost use Rattle.sl_count_calls.specs.inner.Held.{EndsAs, HasSlots, Holds, recorded};
 
 use crate::columns::columns_of;
+use sl_base_quotients::NoMemory;
 use sl_check::CheckedBook;
 use sl_code_instructions::Code;
 use sl_code_semantics::Verified;
 use sl_compile::compile;
 use sl_machine::{Ending, Memory, budget, run, run_unrecorded};
-use sl_ratio::NoMemory;
 use sl_stages::{Book, Counted, End, Records, Returns};
 use sl_table::into_table;
 use std::alloc::Global;

@@ -8,7 +8,7 @@ ghost use Rattle.sl_count_calls.specs.Reading.{ReadsAfter};
 ghost use Rattle.sl_count_inputs.specs.Failures.{counts, counts_after};
 ghost use Rattle.sl_count_inputs.specs.Reading.{ForKnown, ReadsBook, TakesAtMost, book_failures, book_input};
 ghost use Rattle.sl_count_inputs.specs.declared.limits.TheConstants.{MAX_RETURNS_BYTES};
-ghost use Rattle.sl_stages.specs.book.Books.{book_of};
+ghost use Rattle.sl_law_meaning.specs.book.Books.{book_of};
 
 use crate::counting::Counting;
 use crate::judged::{Judged, counting_of, unknown};

@@ -3,8 +3,8 @@
 ghost use Rattle.std.specs.Prelude.{IfOk, length};
 ghost use Rattle.sl_count_calls.specs.Outcomes.{FitsCounted};
 
+use sl_base_quotients::NoMemory;
 use sl_code_instructions::Code;
-use sl_ratio::NoMemory;
 use sl_stages::{Counted, Returns};
 use sl_table::{column_text, short_text, steps_text};
 use std::alloc::Global;

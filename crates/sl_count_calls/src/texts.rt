@@ -9,15 +9,15 @@ ghost use Rattle.sl_count_calls.specs.Views.{IsAnswerOf, IsShownOn};
 ghost use Rattle.sl_count_calls.specs.inner.Texts.{HasStage, IsMeant, SuitsReport};
 ghost use Rattle.sl_count_calls.specs.Outcomes.{FitsOutcome};
 ghost use Rattle.sl_count_inputs.specs.declared.verdict.Verdict.TheVariants as verdict;
-ghost use Rattle.sl_stages.specs.book.Books.{book_of};
+ghost use Rattle.sl_law_meaning.specs.book.Books.{book_of};
 
 use crate::answer::Answer;
 use crate::counting::Counting;
 use crate::judged::Judged;
 use crate::report::Report;
 use crate::view::View;
+use sl_base_quotients::NoMemory;
 use sl_count_inputs::{Status, stage_number};
-use sl_ratio::NoMemory;
 use sl_stages::End;
 use sl_table::{Text, fault_text};
 use std::alloc::Global;

@@ -6,10 +6,10 @@ ghost use Rattle.sl_count_inputs.specs.Reading.{TakesAtMost};
 ghost use Rattle.sl_count_code_files.specs.CodeFiles.{IsCodeVerdict};
 
 use crate::refusal::CodeRefusal;
+use sl_base_quotients::NoMemory;
 use sl_code::{CodeFault, from_bytes};
 use sl_code_semantics::Verified;
 use sl_count_inputs::{Bytes, DeskError, Input, MAX_CODE_BYTES, Source, Verdict, read_all};
-use sl_ratio::NoMemory;
 use sl_verify::verify;
 use std::alloc::Global;
 

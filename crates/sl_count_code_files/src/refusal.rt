@@ -3,10 +3,10 @@
 ghost use Rattle.std.specs.Prelude.{◌≡◌, IfOk};
 ghost use Rattle.sl_count_code_files.specs.CodeFiles.{code_fault, kinds_fault};
 
+use sl_base_quotients::NoMemory;
 use sl_code::CodeFault;
 use sl_code_semantics::VerifyFault;
 use sl_count_inputs::{Numbered, refused, refused_by};
-use sl_ratio::NoMemory;
 use std::alloc::Global;
 
 /// Why a code file is refused.

@@ -6,11 +6,11 @@ use Rattle.std.proofs.lemmas.List.{length-map}
 use Rattle.sl_lex.specs.declared.token.Token.{Token}
 use Rattle.sl_lex.specs.Tokens.{AreTokens}
 use Rattle.sl_parse.specs.Grammar.{IsBook}
-use Rattle.sl_stages.specs.declared.book.Book.{Book}
+use Rattle.sl_law_meaning.specs.declared.book.Book.{Book}
 use Rattle.sl_base_terms.specs.declared.limits.TheConstants.{MAX_STAGES}
-use Rattle.sl_stages.specs.book.Books.{book_of}
-use Rattle.sl_stages.specs.book.Limits.{is_within_stage}
-use Rattle.sl_stages.specs.book.Trees.{stage_of}
+use Rattle.sl_law_meaning.specs.book.Books.{book_of}
+use Rattle.sl_law_meaning.specs.book.Limits.{is_within_stage}
+use Rattle.sl_law_meaning.specs.book.Trees.{stage_of}
 use Rattle.sl_count_inputs.specs.declared.limits.TheConstants.{MAX_BOOK_BYTES}
 use Rattle.sl_count_inputs.specs.Books.{HasTree}
 

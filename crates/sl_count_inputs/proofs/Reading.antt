@@ -3,7 +3,7 @@ use Rattle.std.proofs.Common.{IfSome, List, None, Option, Some, subst, ◌≡◌
 use Rattle.sl_count_inputs.specs.Books.{IsTextVerdict}
 use Rattle.sl_count_inputs.specs.declared.refusal.BookRefusal.{BookRefusal}
 use Rattle.sl_count_inputs.specs.declared.verdict.Verdict.{Verdict}
-use Rattle.sl_stages.specs.book.Trees.{BookTree}
+use Rattle.sl_law_meaning.specs.book.Trees.{BookTree}
 
 -- what the bytes that were read come to is what the input comes to
 pub known_verdict : (limit : ℕ) (known : Option (List ℕ)) (bytes : List ℕ) (verdict : Verdict BookTree BookRefusal)

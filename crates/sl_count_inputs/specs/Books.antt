@@ -17,11 +17,11 @@ use Rattle.sl_parse.specs.Grammar.{IsBook}
 use Rattle.sl_parse.specs.Parsing.{IsFaultOf}
 use Rattle.sl_parse.specs.declared.fault.ParseFault.TheVariants as parse
 use Rattle.sl_parse.specs.declared.fault.ParseFault.{ParseFault}
-use Rattle.sl_stages.specs.book.Limits.{is_within_limits}
-use Rattle.sl_stages.specs.book.Trees.{BookTree}
-use Rattle.sl_stages.specs.book.Typing.{check_fault}
-use Rattle.sl_stages.specs.declared.check_fault.CheckFault.TheVariants as check
-use Rattle.sl_stages.specs.declared.check_fault.CheckFault.{CheckFault}
+use Rattle.sl_law_meaning.specs.book.Limits.{is_within_limits}
+use Rattle.sl_law_meaning.specs.book.Trees.{BookTree}
+use Rattle.sl_law_meaning.specs.book.Typing.{check_fault}
+use Rattle.sl_law_meaning.specs.declared.check_fault.CheckFault.TheVariants as check
+use Rattle.sl_law_meaning.specs.declared.check_fault.CheckFault.{CheckFault}
 
 -- a book of the library, by its name, or the bytes of a text
 pub data BookInput : Type 0 where

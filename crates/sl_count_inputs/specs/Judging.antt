@@ -1,8 +1,8 @@
 -- The input for which a call's argument stands, and the verdict for which its answer stands.
-use Rattle.sl_stages.specs.declared.checked.CheckedBook.{CheckedBook}
-use Rattle.sl_stages.specs.book.Books.{book_of}
-use Rattle.sl_stages.specs.book.Trees.{BookTree}
-use Rattle.sl_stages.specs.returns.Election.{Election}
+use Rattle.sl_law_meaning.specs.declared.checked.CheckedBook.{CheckedBook}
+use Rattle.sl_law_meaning.specs.book.Books.{book_of}
+use Rattle.sl_law_meaning.specs.book.Trees.{BookTree}
+use Rattle.sl_law_meaning.specs.returns.Election.{Election}
 use Rattle.sl_count_inputs.specs.Books.{BookInput, library, text}
 use Rattle.sl_count_inputs.specs.declared.book.BookText.{BookText}
 use Rattle.sl_count_inputs.specs.declared.book.BookText.TheVariants as given

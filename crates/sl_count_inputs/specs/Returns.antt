@@ -8,7 +8,7 @@ use Rattle.sl_count_inputs.specs.declared.verdict.Verdict.TheVariants.{Good, Ref
 use Rattle.sl_count_inputs.specs.declared.verdict.Verdict.{Verdict}
 use Rattle.sl_returns.specs.Faults.{fault_number}
 use Rattle.sl_returns.specs.Returns.{records_in, returns_of}
-use Rattle.sl_stages.specs.returns.Election.{Election}
+use Rattle.sl_law_meaning.specs.returns.Election.{Election}
 
 -- the bytes are too long; or the records have a fault; or they are returns
 abbrev pub IsReturnsVerdict : List ℕ → Verdict Election ReturnsRefusal → Type 0

@@ -1,7 +1,7 @@
 -- The stages of a rulebook by their names.
 use Rattle.std.specs.Prelude.{ℕ, List, Option, map, position}
 use Rattle.std.specs.Str.{bytes_eq}
-use Rattle.sl_stages.specs.book.Trees.{BookTree}
+use Rattle.sl_law_meaning.specs.book.Trees.{BookTree}
 
 -- the names of a book's stages, in order
 abbrev pub names_of : BookTree → List (List ℕ)

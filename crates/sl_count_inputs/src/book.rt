@@ -13,11 +13,11 @@ use crate::refused_book::RefusedBook;
 use crate::source::{BookSource, Source};
 use crate::status::{DeskError, Input};
 use crate::verdict::Verdict;
+use sl_base_quotients::NoMemory;
 use sl_check::{CheckedBook, check};
 use sl_laws::law;
 use sl_lex::{LexFault, lex};
 use sl_parse::{ParseFault, parse};
-use sl_ratio::NoMemory;
 use std::alloc::Global;
 
 /// A rulebook: of the library, by its name without `@`, or the bytes of a text.

@@ -5,11 +5,11 @@ ghost use Rattle.sl_returns.specs.Faults.{fault_number};
 ghost use Rattle.sl_count_inputs.specs.Books.{lex_fault, parse_fault, checked_fault};
 ghost use Rattle.sl_count_inputs.specs.Refusals.{numbered, refused, refused_at};
 
+use sl_base_quotients::NoMemory;
 use sl_check::CheckFault;
 use sl_count_texts::Text;
 use sl_lex::LexFault;
 use sl_parse::ParseFault;
-use sl_ratio::NoMemory;
 use sl_returns::ReturnsFault;
 use std::alloc::Global;
 

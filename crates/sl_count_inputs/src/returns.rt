@@ -12,7 +12,7 @@ use crate::refused_election::RefusedElection;
 use crate::source::Source;
 use crate::status::{DeskError, Input};
 use crate::verdict::Verdict;
-use sl_ratio::NoMemory;
+use sl_base_quotients::NoMemory;
 use sl_returns::{FaultKind, read_or_refuse};
 use sl_stages::Returns;
 use std::alloc::Global;

@@ -3,7 +3,7 @@
 ghost use Rattle.std.specs.Prelude.{◌≡◌};
 ghost use Rattle.sl_count_inputs.specs.declared.status.DeskError.TheVariants.{NoMemory as OutOfMemory};
 
-use sl_ratio::NoMemory;
+use sl_base_quotients::NoMemory;
 use std::fmt;
 use thiserror::Error;
 

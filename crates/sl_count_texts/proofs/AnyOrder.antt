@@ -10,11 +10,11 @@ use Rattle.std.proofs.lemmas.List.Sorted.{ranks_by, sum_by-IsPermutation, Contai
 use Rattle.std.proofs.lemmas.List.Sums.{length-filter}
 use Rattle.std.proofs.lemmas.Map.Keys.{IsDistinct-head, IsDistinct-tail}
 use Rattle.std.proofs.lemmas.Map.Lookups.{exact_bytes}
-use Rattle.sl_stages.specs.declared.table.Weight.{Weight}
-use Rattle.sl_stages.specs.laws.MeaningLaws.{same_seat, same_entry, RecordsComeOnce}
-use Rattle.sl_stages.specs.meaning.Means.{SameTable}
-use Rattle.sl_stages.specs.meaning.Tables.{SeatTable}
-use Rattle.sl_stages.specs.returns.Election.{Election}
+use Rattle.sl_law_meaning.specs.declared.table.Weight.{Weight}
+use Rattle.sl_law_meaning.specs.laws.MeaningLaws.{same_seat, same_entry, RecordsComeOnce}
+use Rattle.sl_law_meaning.specs.meaning.Means.{SameTable}
+use Rattle.sl_law_meaning.specs.meaning.Tables.{SeatTable}
+use Rattle.sl_law_meaning.specs.returns.Election.{Election}
 use Rattle.sl_count_texts.specs.Bounds.{is_one_scope, groups, scope_weights, is_of_entry, seats_of, AreBoundsLines, IsBoundsLines}
 use Rattle.sl_count_texts.specs.Orders.{step_key, weight_key, is_before, in_order}
 use Rattle.sl_count_texts.specs.Short.{short_text}

@@ -7,9 +7,9 @@ use Rattle.std.proofs.lemmas.List.{append-nil, take_more, take_all}
 use Rattle.std.proofs.lemmas.List.Elements.{All-head}
 use Rattle.std.proofs.lemmas.Result.{on_ok_weaker}
 use Rattle.std.proofs.lemmas.Simd.{map-map}
-use Rattle.sl_ratio.specs.Quotient.{Quotient}
-use Rattle.sl_stages.specs.declared.table.Weight.{Weight}
-use Rattle.sl_stages.specs.returns.Election.{Election}
+use Rattle.sl_base_quotients.specs.Quotient.{Quotient}
+use Rattle.sl_law_meaning.specs.declared.table.Weight.{Weight}
+use Rattle.sl_law_meaning.specs.returns.Election.{Election}
 use Rattle.sl_count_texts.specs.Bounds.{IsToldPair, pair_line, IsBoundsLine, AreBoundsLines}
 use Rattle.sl_count_texts.specs.Lines.{Draft, with_lines}
 use Rattle.sl_count_texts.specs.inner.Counts.{HasLines}

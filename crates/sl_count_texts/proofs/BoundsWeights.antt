@@ -2,9 +2,9 @@
 use Rattle.std.proofs.Common.{◌≡◌, ℕ, ◌≤◌, List, map, sym, subst}
 use Rattle.std.specs.List.{All}
 use Rattle.std.proofs.lemmas.List.Elements.{All-map, All-weaker}
-use Rattle.sl_ratio.specs.declared.limits.TheConstants.{MAX_WEIGHT}
-use Rattle.sl_ratio.specs.declared.method.Divisor.{Divisor}
-use Rattle.sl_stages.specs.declared.table.Weight.{Weight}
+use Rattle.sl_base_quotients.specs.declared.limits.TheConstants.{MAX_WEIGHT}
+use Rattle.sl_base_quotients.specs.declared.method.Divisor.{Divisor}
+use Rattle.sl_law_meaning.specs.declared.table.Weight.{Weight}
 use Rattle.sl_count_texts.specs.Bounds.{IsBoundsWeight}
 
 module _ (method : Divisor) (ws : List Weight) (numbers : List ℕ) (are : numbers ≡ map (λ w. w.weight) ws) (told : All (IsBoundsWeight method) ws) where

@@ -2,9 +2,9 @@
 use Rattle.std.proofs.Common.{◌≡◌, ℕ, ◌<◌, ◌≤◌, List, length, map, get_or, sym, ap, subst, ◌∙◌, arith}
 use Rattle.std.specs.List.{All}
 use Rattle.std.proofs.lemmas.List.{get_or-map, length-map}
-use Rattle.sl_stages.specs.declared.table.ListSeats.{ListSeats}
-use Rattle.sl_stages.specs.returns.Election.{Election}
-use Rattle.sl_stages.specs.meaning.Tables.{SeatTable}
+use Rattle.sl_law_meaning.specs.declared.table.ListSeats.{ListSeats}
+use Rattle.sl_law_meaning.specs.returns.Election.{Election}
+use Rattle.sl_law_meaning.specs.meaning.Tables.{SeatTable}
 use Rattle.sl_count_texts.specs.inner.Fits.{Fits, IsOf}
 
 pub is_of : (t : SeatTable) (e : Election) → Fits t e → (lists : List ListSeats) → lists ≡ t.lists → (i : ℕ) (d : ListSeats) → i < length lists → IsOf e (get_or lists i d)

@@ -2,8 +2,8 @@
 use Rattle.std.proofs.Common.{◌≡◌, ℕ, ◌+◌, ◌<◌, Bool, true, false, List, [], ◌∷◌, cond, filter, length, sum_by, get_or, refl, sym, ap, ◌∙◌, zero-add, if◌then◌else◌}
 use Rattle.std.proofs.lemmas.List.FromFn.{get_or-map-range_with_len, length-map-range_with_len}
 use Rattle.std.proofs.lemmas.List.Sums.{sum_by-cons}
-use Rattle.sl_stages.specs.returns.Election.{Election, parties_of}
-use Rattle.sl_stages.specs.returns.Facts.{by_party}
+use Rattle.sl_law_meaning.specs.returns.Election.{Election, parties_of}
+use Rattle.sl_law_meaning.specs.returns.Facts.{by_party}
 
 -- a sum over the elements that pass a test
 pub sum_passing : {X : Type 0} (p : X → Bool) (f : X → ℕ) (xs : List X) → sum_by (λ x. if p x then f x else 0) xs ≡ sum_by f (filter p xs)

@@ -4,10 +4,10 @@ use Rattle.std.specs.List.{zip}
 use Rattle.std.specs.Option.{ForSome}
 use Rattle.std.proofs.lemmas.Bool.{ne_eqb}
 use Rattle.std.proofs.lemmas.Option.{none-some, slice_get_within, get_or_from_slice_get}
-use Rattle.sl_stages.specs.declared.returns.Win.{Win}
-use Rattle.sl_stages.specs.declared.table.Placed.{Placed}
-use Rattle.sl_stages.specs.returns.Election.{Election, IsElection, parties_of}
-use Rattle.sl_stages.specs.returns.Facts.{is_of}
+use Rattle.sl_law_meaning.specs.declared.election.Win.{Win}
+use Rattle.sl_law_meaning.specs.declared.table.Placed.{Placed}
+use Rattle.sl_law_meaning.specs.returns.Election.{Election, IsElection, parties_of}
+use Rattle.sl_law_meaning.specs.returns.Facts.{is_of}
 use Rattle.sl_count_texts.specs.declared.party_counts.Counted.{Counted}
 use Rattle.sl_count_texts.specs.inner.PartyCounts.{counts, party_counted}
 use Rattle.sl_count_texts.proofs.Counting.{Counts, counts_one, counts_no, count_le}

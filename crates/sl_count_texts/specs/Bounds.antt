@@ -1,16 +1,16 @@
 -- The lines of the bounds of a table's scopes (docs/output.md, section 1).
 use Rattle.std.specs.Prelude.{◌≡◌, ℕ, ◌<◌, ◌≤◌, ◌⊎◌, Bool, ◌&&◌, List, [], ◌∷◌, ◌++◌, All, Option, Some, None, map, sum, count_by, codes, nat_eq, if◌then◌else◌}
 use Rattle.std.specs.Ordering.{is_eq}
-use Rattle.sl_ratio.specs.declared.limits.TheConstants.{MAX_WEIGHT, MAX_SEATS}
-use Rattle.sl_ratio.specs.declared.method.Divisor.{Divisor}
-use Rattle.sl_ratio.specs.Quotient.{Quotient, compare}
-use Rattle.sl_ratio.specs.Bounds.{IsRounding, AreBounds}
-use Rattle.sl_stages.specs.declared.table.SeatStep.{SeatStep}
-use Rattle.sl_stages.specs.declared.table.Weight.{Weight}
-use Rattle.sl_stages.specs.laws.MeaningLaws.{same_scope}
-use Rattle.sl_stages.specs.meaning.Scopes.{same_item}
-use Rattle.sl_stages.specs.meaning.Tables.{SeatTable}
-use Rattle.sl_stages.specs.returns.Election.{Election}
+use Rattle.sl_base_quotients.specs.declared.limits.TheConstants.{MAX_WEIGHT, MAX_SEATS}
+use Rattle.sl_base_quotients.specs.declared.method.Divisor.{Divisor}
+use Rattle.sl_base_quotients.specs.Quotient.{Quotient, compare}
+use Rattle.sl_base_quotients.specs.Bounds.{IsRounding, AreBounds}
+use Rattle.sl_law_meaning.specs.declared.table.SeatStep.{SeatStep}
+use Rattle.sl_law_meaning.specs.declared.table.Weight.{Weight}
+use Rattle.sl_law_meaning.specs.laws.MeaningLaws.{same_scope}
+use Rattle.sl_law_meaning.specs.meaning.Scopes.{same_item}
+use Rattle.sl_law_meaning.specs.meaning.Tables.{SeatTable}
+use Rattle.sl_law_meaning.specs.returns.Election.{Election}
 use Rattle.sl_count_texts.specs.Faults.{stage_word, scope_words}
 use Rattle.sl_count_texts.specs.Lines.{line, ratio_word}
 use Rattle.sl_count_texts.specs.Orders.{weight_key, in_order}

@@ -1,7 +1,7 @@
 -- Lines of words, and texts that are written word by word (docs/output.md, section 1).
 use Rattle.std.specs.Prelude.{ℕ, Bool, true, false, List, [], ◌∷◌, ◌++◌, codes, nat_eq, if◌then◌else◌}
 use Rattle.std.specs.Fmt.{decimal}
-use Rattle.sl_ratio.specs.Quotient.{Quotient}
+use Rattle.sl_base_quotients.specs.Quotient.{Quotient}
 
 -- a quotient, not reduced; infinite where its denominator is 0
 abbrev pub ratio_word : Quotient → List ℕ

@@ -1,11 +1,11 @@
 -- The text of the seat steps of a table, with the bounds of its scopes (docs/output.md, section 1).
 use Rattle.std.specs.Prelude.{◌≡◌, ℕ, List, [], ◌∷◌, ◌++◌, flat_map, codes}
 use Rattle.std.specs.Fmt.{decimal}
-use Rattle.sl_stages.specs.declared.table.Mark.{Mark}
-use Rattle.sl_stages.specs.declared.table.Mark.TheVariants as mark
-use Rattle.sl_stages.specs.declared.table.SeatStep.{SeatStep}
-use Rattle.sl_stages.specs.returns.Election.{Election}
-use Rattle.sl_stages.specs.meaning.Tables.{SeatTable}
+use Rattle.sl_law_meaning.specs.declared.table.Mark.{Mark}
+use Rattle.sl_law_meaning.specs.declared.table.Mark.TheVariants as mark
+use Rattle.sl_law_meaning.specs.declared.table.SeatStep.{SeatStep}
+use Rattle.sl_law_meaning.specs.returns.Election.{Election}
+use Rattle.sl_law_meaning.specs.meaning.Tables.{SeatTable}
 use Rattle.sl_count_texts.specs.Bounds.{IsBoundsLines}
 use Rattle.sl_count_texts.specs.Faults.{stage_word, scope_words, item_word}
 use Rattle.sl_count_texts.specs.Lines.{line, ratio_word}

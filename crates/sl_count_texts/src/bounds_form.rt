@@ -9,8 +9,9 @@ ghost use Rattle.sl_count_texts.specs.inner.Counts.{count_of, CountsOne, counted
 use crate::fault_form::{scope_words, stage_word};
 use crate::line::Text;
 use crate::orders::{entry_key, weights_in_order};
+use sl_base_quotients::{Divisor, MAX_SEATS, MAX_WEIGHT, NoMemory, Ratio};
 use sl_code_instructions::Code;
-use sl_ratio::{Divisor, MAX_SEATS, MAX_WEIGHT, NoMemory, Ratio, bounds};
+use sl_ratio::bounds;
 use sl_stages::{Returns, SeatStep, Table, Weight};
 use std::alloc::Global;
 use std::collections::HashMap;

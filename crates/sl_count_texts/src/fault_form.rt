@@ -6,8 +6,8 @@ ghost use Rattle.sl_count_texts.specs.Faults.{stage_word, scope_words, item_word
 ghost use Rattle.sl_count_texts.specs.Lines.{with_word, with_words};
 
 use crate::line::Text;
+use sl_base_quotients::NoMemory;
 use sl_code_instructions::Code;
-use sl_ratio::NoMemory;
 use sl_stages::{FaultKind, Item, LegalFault, Returns, Scope};
 use std::alloc::Global;
 

@@ -1,10 +1,10 @@
 //! Laws of the texts, over their definitions alone.
 
 ghost use Rattle.std.specs.Prelude.{◌≡◌, ℕ, List};
-ghost use Rattle.sl_stages.specs.laws.MeaningLaws.{RecordsComeOnce};
-ghost use Rattle.sl_stages.specs.meaning.Means.{SameTable};
-ghost use Rattle.sl_stages.specs.meaning.Tables.{SeatTable};
-ghost use Rattle.sl_stages.specs.returns.Election.{Election};
+ghost use Rattle.sl_law_meaning.specs.laws.MeaningLaws.{RecordsComeOnce};
+ghost use Rattle.sl_law_meaning.specs.meaning.Means.{SameTable};
+ghost use Rattle.sl_law_meaning.specs.meaning.Tables.{SeatTable};
+ghost use Rattle.sl_law_meaning.specs.returns.Election.{Election};
 ghost use Rattle.sl_count_texts.specs.Steps.{IsStepsText};
 
 /// The steps text does not show in which order a table has its steps and weights, where none comes twice (docs/output.md, section 1).

@@ -1,6 +1,6 @@
 //! Texts of lines, and those of tables and of legal faults.
 //!
-//! Stands on `sl_code_semantics`; used by the room count. Proved: the bytes of each text.
+//! Stands on `sl_code_semantics`, `sl_stages` and `sl_ratio`; used by the room count. Proved: the bytes of each text.
 //!
 //! Where an error is `NoMemory` alone, memory ran out, and nothing else is wrong.
 #![tactic(auto)]

@@ -5,7 +5,7 @@ ghost use Rattle.std.specs.Fmt.{decimal};
 ghost use Rattle.sl_count_texts.specs.Lines.{ratio_word, no_text, with_word, with_end};
 
 use itoa::Buffer;
-use sl_ratio::{NoMemory, Ratio};
+use sl_base_quotients::{NoMemory, Ratio};
 use std::alloc::Global;
 use std::marker::Model;
 

@@ -3,7 +3,7 @@
 ghost use Rattle.std.specs.Prelude.{◌≡◌, IfOk, map};
 ghost use Rattle.sl_count_texts.specs.Orders.{scope_key, item_key, entry_key, step_key, weight_key, in_order};
 
-use sl_ratio::NoMemory;
+use sl_base_quotients::NoMemory;
 use sl_stages::{Item, Scope, SeatStep, Table, Weight};
 use std::alloc::Global;
 

@@ -2,11 +2,11 @@
 
 ghost use Rattle.std.specs.Prelude.{◌≡◌, ◌<◌, ◌+◌, ◌^◌, ◌≤◌, All, IfOk, map};
 ghost use Rattle.std.specs.List.{range_with_len};
-ghost use Rattle.sl_stages.specs.returns.Facts.{by_party};
+ghost use Rattle.sl_law_meaning.specs.returns.Facts.{by_party};
 ghost use Rattle.sl_count_texts.specs.inner.Fits.{Fits};
 ghost use Rattle.sl_count_texts.specs.inner.PartyCounts.{AreCounts, list_seats_of, counts, party_counted, winners_counted};
 
-use sl_ratio::NoMemory;
+use sl_base_quotients::NoMemory;
 use sl_stages::{ListSeats, Placed, Returns, Table, Win};
 use std::alloc::Global;
 

@@ -3,15 +3,15 @@
 ghost use Rattle.std.specs.Prelude.{◌≡◌, ◌+◌, ◌^◌, ◌<◌, ◌≤◌, ◌∷◌, [], false, flat_map, sum_by, count_by, codes, IfOk, OnOk};
 ghost use Rattle.std.specs.Fmt.{decimal};
 ghost use Rattle.std.specs.List.{zip};
-ghost use Rattle.sl_stages.specs.returns.Election.{lands_of, parties_of};
-ghost use Rattle.sl_stages.specs.returns.Facts.{parties};
+ghost use Rattle.sl_law_meaning.specs.returns.Election.{lands_of, parties_of};
+ghost use Rattle.sl_law_meaning.specs.returns.Facts.{parties};
 ghost use Rattle.sl_count_texts.specs.inner.Fits.{Fits};
 ghost use Rattle.sl_count_texts.specs.Lines.{line, with_lines};
 ghost use Rattle.sl_count_texts.specs.Short.{is_single, total_line, party_line, list_line, vacant_line, winner_line, short_text};
 
 use crate::line::Text;
 use crate::party_counts::PartyCounts;
-use sl_ratio::NoMemory;
+use sl_base_quotients::NoMemory;
 use sl_stages::{ListSeats, Placed, Returns, Table};
 use std::alloc::Global;
 

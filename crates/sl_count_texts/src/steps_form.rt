@@ -11,8 +11,8 @@ use crate::fault_form::{item_word, scope_words, stage_word};
 use crate::line::Text;
 use crate::orders::steps_in_order;
 use crate::short_form::short_lines;
+use sl_base_quotients::NoMemory;
 use sl_code_instructions::Code;
-use sl_ratio::NoMemory;
 use sl_stages::{Mark, Returns, SeatStep, Table};
 use std::alloc::Global;
 

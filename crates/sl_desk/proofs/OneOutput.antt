@@ -13,11 +13,11 @@ use Rattle.sl_parse.specs.Faults.{IsFault}
 use Rattle.sl_parse.specs.Parsing.{limits, offset, fault_at, IsFaultOf}
 use Rattle.sl_returns.specs.declared.fault.ReturnsFault.{ReturnsFault}
 use Rattle.sl_returns.specs.Returns.{records_in}
-use Rattle.sl_stages.specs.declared.check_fault.CheckFault.{CheckFault}
-use Rattle.sl_stages.specs.book.Trees.{BookTree}
-use Rattle.sl_stages.specs.book.Limits.{is_within_limits}
-use Rattle.sl_stages.specs.book.Typing.{check_fault, is_typed}
-use Rattle.sl_stages.specs.returns.Election.{Election}
+use Rattle.sl_law_meaning.specs.declared.check_fault.CheckFault.{CheckFault}
+use Rattle.sl_law_meaning.specs.book.Trees.{BookTree}
+use Rattle.sl_law_meaning.specs.book.Limits.{is_within_limits}
+use Rattle.sl_law_meaning.specs.book.Typing.{check_fault, is_typed}
+use Rattle.sl_law_meaning.specs.returns.Election.{Election}
 use Rattle.sl_count_inputs.specs.declared.refusal.BookRefusal.{BookRefusal}
 use Rattle.sl_count_inputs.specs.declared.refusal.BookRefusal.TheVariants.{UnknownLaw, TooLong, Tokens, Grammar, Test}
 use Rattle.sl_count_inputs.specs.declared.refusal.ReturnsRefusal.{ReturnsRefusal}

@@ -11,10 +11,10 @@ use Rattle.sl_parse.specs.Parsing as parse
 use Rattle.sl_parse.specs.Parsing.{limits, offset}
 use Rattle.sl_returns.specs.Returns.{records_in, returns_of}
 use Rattle.sl_returns.specs.declared.fault.ReturnsFault.{ReturnsFault}
-use Rattle.sl_stages.specs.declared.check_fault.CheckFault.{CheckFault}
-use Rattle.sl_stages.specs.book.Trees.{BookTree}
-use Rattle.sl_stages.specs.book.Typing.{check_fault}
-use Rattle.sl_stages.specs.returns.Election.{Election}
+use Rattle.sl_law_meaning.specs.declared.check_fault.CheckFault.{CheckFault}
+use Rattle.sl_law_meaning.specs.book.Trees.{BookTree}
+use Rattle.sl_law_meaning.specs.book.Typing.{check_fault}
+use Rattle.sl_law_meaning.specs.returns.Election.{Election}
 use Rattle.sl_count_inputs.specs.declared.limits.TheConstants.{MAX_BOOK_BYTES, MAX_RETURNS_BYTES}
 use Rattle.sl_count_inputs.specs.declared.refusal.BookRefusal.{BookRefusal}
 use Rattle.sl_count_inputs.specs.declared.refusal.BookRefusal.TheVariants.{TooLong, Tokens, Grammar, Test}

@@ -1,8 +1,8 @@
 -- What running the file of a code writes is how the run of the code ends, and of a book's code what counting by the book writes.
 use Rattle.std.proofs.Common.{◌≡◌, ◌≢◌, ℕ, true, List, length, Option, None, Some, inl, inr, refl, sym, ap, subst, ◌∙◌}
-use Rattle.sl_stages.specs.book.Trees.{BookTree}
-use Rattle.sl_stages.specs.book.Typing.{is_typed}
-use Rattle.sl_stages.specs.returns.Election.{Election, IsElection}
+use Rattle.sl_law_meaning.specs.book.Trees.{BookTree}
+use Rattle.sl_law_meaning.specs.book.Typing.{is_typed}
+use Rattle.sl_law_meaning.specs.returns.Election.{Election, IsElection}
 use Rattle.sl_code_instructions.specs.Codes.{CountingCode}
 use Rattle.sl_code.specs.Spelling.{spelling_of}
 use Rattle.sl_machine.specs.declared.machine.Ending.{Ending as Answer}
@@ -25,7 +25,7 @@ use Rattle.sl_count_inputs.specs.declared.verdict.Verdict.{Verdict}
 use Rattle.sl_count_inputs.specs.declared.verdict.Verdict.TheVariants.{Good, Refused}
 use Rattle.sl_count_calls.proofs.Ends.{fault_is_meant, table_is_meant}
 use Rattle.sl_count_calls.specs.Outcomes.{code_names}
-use Rattle.sl_stages.specs.declared.count.Records.TheVariants.{Kept}
+use Rattle.sl_law_meaning.specs.declared.count.Records.TheVariants.{Kept}
 use Rattle.sl_desk.specs.Endings.{IsRunOutput, out_of_budget}
 use Rattle.sl_desk.specs.Laws.{OneCodeVerdict, NoOtherCodeVerdict, OneRun, HasOneRun, RunsItsCode, RunIsCount}
 use Rattle.sl_count_calls.specs.Counting.{IsTreeOutput, IsCount}
@@ -38,7 +38,7 @@ use Rattle.sl_count_inputs.specs.Returns.{IsReturnsVerdict, returns_line}
 use Rattle.sl_desk.proofs.CodeLengths.{file_fits}
 use Rattle.sl_desk.proofs.OneOutput.{one_returns_verdict}
 use Rattle.sl_desk.proofs.OneVerdict.{one_returns}
-use Rattle.sl_stages.proofs.meaning.MeaningProofs.{some_outcome}
+use Rattle.sl_law_meaning.proofs.meaning.MeaningProofs.{some_outcome}
 use Rattle.sl_count_calls.specs.Counting.{ShowsSeats}
 
 module _ (no_other : NoOtherCodeVerdict) where

@@ -13,7 +13,7 @@ use Rattle.sl_code_semantics.specs.Runs.{Ended, Ending, OutOfBudget, Stuck}
 use Rattle.sl_code_semantics.specs.State.{Faulted, Halted}
 use Rattle.sl_code_semantics.specs.Tables.{held_table}
 use Rattle.sl_code_semantics.specs.Unrecorded.{unrecorded, without_records}
-use Rattle.sl_stages.specs.returns.Election.{Election}
+use Rattle.sl_law_meaning.specs.returns.Election.{Election}
 
 none_or_some : (a : Answer) → None ≡ Some a → ⊥
 none_or_some a e = cc

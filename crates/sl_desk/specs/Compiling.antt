@@ -11,7 +11,7 @@ use Rattle.sl_count_inputs.specs.declared.status.Status.TheVariants as status
 use Rattle.sl_count_inputs.specs.declared.status.Status.{Status}
 use Rattle.sl_count_inputs.specs.declared.verdict.Verdict.TheVariants.{Good, Refused}
 use Rattle.sl_count_inputs.specs.declared.verdict.Verdict.{Verdict}
-use Rattle.sl_stages.specs.book.Trees.{BookTree}
+use Rattle.sl_law_meaning.specs.book.Trees.{BookTree}
 use Rattle.sl_code_semantics.specs.WellKinded.{IsWellKinded}
 
 -- the bytes of a code file, and the listing of its instructions, of a well-kinded code that counts as the book means

@@ -7,7 +7,7 @@ use Rattle.sl_code_instructions.specs.Codes.{CountingCode}
 use Rattle.sl_machine.specs.declared.machine.Ending.TheVariants as answer
 use Rattle.sl_machine.specs.declared.machine.Ending.{Ending as Answer}
 use Rattle.sl_code_semantics.specs.Tables.{held_table}
-use Rattle.sl_stages.specs.returns.Election.{Election}
+use Rattle.sl_law_meaning.specs.returns.Election.{Election}
 use Rattle.sl_count_texts.specs.Faults.{fault_text}
 use Rattle.sl_count_texts.specs.Lines.{line}
 use Rattle.sl_count_texts.specs.Short.{short_text}

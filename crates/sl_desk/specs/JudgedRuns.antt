@@ -14,7 +14,7 @@ use Rattle.sl_machine.specs.Fits.{Fits}
 use Rattle.sl_machine.specs.declared.machine.Ending.{Ending as Answer}
 use Rattle.sl_code_semantics.specs.Runs.{budget_of, ending}
 use Rattle.sl_code_semantics.specs.Unrecorded.{without_records}
-use Rattle.sl_stages.specs.returns.Election.{Election}
+use Rattle.sl_law_meaning.specs.returns.Election.{Election}
 
 -- the run of a good code on good returns, with the budget of its stages and without its records, ends so
 abbrev pub RunsInto : CountingCode → Election → Answer → Type 0

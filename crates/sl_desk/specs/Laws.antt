@@ -4,9 +4,9 @@ use Rattle.sl_code_instructions.specs.Codes.{CountingCode}
 use Rattle.sl_code.specs.Laws.{IsByte}
 use Rattle.sl_code_instructions.specs.Proper.{IsProper}
 use Rattle.sl_code.specs.Spelling.{spelling_of}
-use Rattle.sl_stages.specs.book.Trees.{BookTree}
-use Rattle.sl_stages.specs.book.Typing.{is_typed}
-use Rattle.sl_stages.specs.laws.OneLaws.{ExactlyOne}
+use Rattle.sl_law_meaning.specs.book.Trees.{BookTree}
+use Rattle.sl_law_meaning.specs.book.Typing.{is_typed}
+use Rattle.sl_law_meaning.specs.laws.OneLaws.{ExactlyOne}
 use Rattle.sl_code_semantics.specs.WellKinded.{IsWellKinded}
 use Rattle.sl_count_code_files.specs.declared.refusal.CodeRefusal.{CodeRefusal}
 use Rattle.sl_count_calls.specs.declared.report.Report.{Report}

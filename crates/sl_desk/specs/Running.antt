@@ -16,7 +16,7 @@ use Rattle.sl_count_inputs.specs.declared.verdict.Verdict.TheVariants.{Good, Ref
 use Rattle.sl_count_inputs.specs.declared.verdict.Verdict.{Verdict}
 use Rattle.sl_machine.specs.Answers.{answer_of}
 use Rattle.sl_code_semantics.specs.Runs.{budget_of, ending}
-use Rattle.sl_stages.specs.returns.Election.{Election}
+use Rattle.sl_law_meaning.specs.returns.Election.{Election}
 
 -- well-kinded code on judged returns: its run, with the budget of its stages
 abbrev pub IsCodeOutput : CountingCode → Verdict Election ReturnsRefusal → Status → List ℕ → Type 0

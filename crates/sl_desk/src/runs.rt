@@ -4,10 +4,10 @@ ghost use Rattle.std.specs.Prelude.{◌≡◌, IfOk};
 ghost use Rattle.sl_desk.specs.Endings.{IsEndingOutput, out_of_budget};
 ghost use Rattle.sl_machine.specs.Fits.{Fits};
 
+use sl_base_quotients::NoMemory;
 use sl_code_instructions::Code;
 use sl_count_calls::Answer;
 use sl_machine::Ending;
-use sl_ratio::NoMemory;
 use sl_stages::Returns;
 use sl_table::{Text, fault_text, short_text, table_of};
 use std::alloc::Global;

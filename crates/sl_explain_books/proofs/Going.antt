@@ -1,7 +1,7 @@
 -- Faults that are listed one after another.
 use Rattle.std.proofs.Common.{List}
-use Rattle.sl_stages.specs.declared.check_fault.CheckFault.{CheckFault}
-use Rattle.sl_stages.specs.book.Trees.{BookTree}
+use Rattle.sl_law_meaning.specs.declared.check_fault.CheckFault.{CheckFault}
+use Rattle.sl_law_meaning.specs.book.Trees.{BookTree}
 use Rattle.sl_explain_books.specs.declared.further.Further.{Further}
 use Rattle.sl_explain_books.specs.Further.{Leaves, Tells}
 

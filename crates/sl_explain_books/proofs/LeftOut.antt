@@ -5,11 +5,11 @@ use Rattle.std.proofs.lemmas.Bool.{and_from, and_parts, le-leb, leb-true}
 use Rattle.std.proofs.lemmas.List.Folds.{list_all-append}
 use Rattle.std.specs.Prelude.{IsTrue, filter, flat_map, nat_le, if◌then◌else◌}
 use Rattle.std.specs.List.{list_all}
-use Rattle.sl_ratio.specs.declared.limits.TheConstants.{MAX_NUMBER}
-use Rattle.sl_stages.specs.declared.book.Number.{Number}
-use Rattle.sl_stages.specs.declared.book.Stage.{Stage}
-use Rattle.sl_stages.specs.book.Trees.{BookTree, StageTree, stage_of}
-use Rattle.sl_stages.specs.book.Limits.{are_small, book_numbers, condition_numbers, is_within_limits, is_within_stage, numbers_of}
+use Rattle.sl_base_quotients.specs.declared.limits.TheConstants.{MAX_NUMBER}
+use Rattle.sl_law_meaning.specs.declared.book.Number.{Number}
+use Rattle.sl_law_meaning.specs.declared.book.Stage.{Stage}
+use Rattle.sl_law_meaning.specs.book.Trees.{BookTree, StageTree, stage_of}
+use Rattle.sl_law_meaning.specs.book.Limits.{are_small, book_numbers, condition_numbers, is_within_limits, is_within_stage, numbers_of}
 use Rattle.sl_explain_books.specs.declared.clause.Clause.{Clause}
 use Rattle.sl_explain_books.specs.declared.clause.Clause.TheVariants as clause
 use Rattle.sl_explain_books.specs.Further.{condition_left, house_left, is_left_out, left_of, lost_with, names_lost, stages_left, version_left, without}

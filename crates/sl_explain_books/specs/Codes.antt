@@ -6,8 +6,8 @@ use Rattle.sl_lex.specs.declared.fault.LexFault.{LexFault}
 use Rattle.sl_lex.specs.declared.fault.LexFault.TheVariants as tokens
 use Rattle.sl_parse.specs.declared.fault.ParseFault.{ParseFault}
 use Rattle.sl_parse.specs.declared.fault.ParseFault.TheVariants as grammar
-use Rattle.sl_stages.specs.declared.check_fault.CheckFault.{CheckFault}
-use Rattle.sl_stages.specs.declared.check_fault.CheckFault.TheVariants as tests
+use Rattle.sl_law_meaning.specs.declared.check_fault.CheckFault.{CheckFault}
+use Rattle.sl_law_meaning.specs.declared.check_fault.CheckFault.TheVariants as tests
 
 abbrev pub token_code : LexFault → Option FaultCode
 token_code (tokens.BadByte at) = Some B03

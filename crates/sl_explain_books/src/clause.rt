@@ -1,11 +1,11 @@
 //! The clause of a rulebook in which a fault lies.
 
 ghost use Rattle.std.specs.Prelude.{◌≡◌};
-ghost use Rattle.sl_stages.specs.book.Books.{book_of};
+ghost use Rattle.sl_law_meaning.specs.book.Books.{book_of};
 ghost use Rattle.sl_explain_books.specs.Further.{clause_at, clause_of, condition_left, house_left, is_last, is_stage, version_left};
 
 use crate::tests::around;
-use sl_stages::{Book, CheckFault, Cond, Number};
+use sl_law_meaning::{Book, CheckFault, Cond, Number};
 
 /// A clause of a rulebook that can be left out.
 #[derive(Clone, Copy)]

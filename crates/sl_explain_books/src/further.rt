@@ -2,8 +2,8 @@
 
 ghost use Rattle.std.specs.Prelude.{[], ◌++◌, ◌∷◌, ◌≡◌, IfOk, List, OnOk};
 ghost use Rattle.sl_explain_books.specs.Further.{Tells, TellsAll};
-ghost use Rattle.sl_stages.specs.book.Books.{book_of};
-ghost use Rattle.sl_stages.specs.declared.check_fault.CheckFault.{CheckFault};
+ghost use Rattle.sl_law_meaning.specs.book.Books.{book_of};
+ghost use Rattle.sl_law_meaning.specs.declared.check_fault.CheckFault.{CheckFault};
 
 use crate::clause::Clause;
 use crate::left_out::without;
@@ -12,8 +12,8 @@ use crate::tests::explain_fault;
 use crate::texts::{ALSO, LINE, MORE};
 use sl_check::check;
 use sl_explain_texts::{Explanation, Speaker};
-use sl_ratio::NoMemory;
-use sl_stages::{Book, CheckFault};
+use sl_base_quotients::NoMemory;
+use sl_law_meaning::{Book, CheckFault};
 
 /// How many of the further clauses that are refused have a line.
 pub const MAX_FURTHER: usize = 20;

@@ -23,7 +23,7 @@ use limits::{explain_depth, explain_no_room, explain_stages};
 use sl_explain_texts::{Explanation, FaultCode, Language, Message, Span, Speaker};
 use sl_lex::{Keyword, Kind, Mark, Token};
 use sl_parse::ParseFault;
-use sl_ratio::NoMemory;
+use sl_base_quotients::NoMemory;
 use std::alloc::Global;
 
 // The words that begin a form.

@@ -3,14 +3,14 @@
 ghost use Rattle.std.specs.Prelude.{[], ◌++◌, ◌≡◌, IfOk, OnOk, filter, map};
 ghost use Rattle.std.specs.List.{list_any};
 ghost use Rattle.std.specs.Str.{bytes_eq};
-ghost use Rattle.sl_stages.specs.book.Books.{book_of};
-ghost use Rattle.sl_stages.specs.book.Trees.{stage_of, tree_of};
+ghost use Rattle.sl_law_meaning.specs.book.Books.{book_of};
+ghost use Rattle.sl_law_meaning.specs.book.Trees.{stage_of, tree_of};
 ghost use Rattle.sl_explain_books.specs.Further.{base_left, condition_left, is_left_out, left_of, lost_with, names_lost, names_one_of, stages_left, without};
 
 use crate::clause::Clause;
 use sl_book_copies::{copy_stage, copy_word};
-use sl_ratio::NoMemory;
-use sl_stages::{Base, Book, Cond, Expr, LastClause, Stage, Word};
+use sl_base_quotients::NoMemory;
+use sl_law_meaning::{Base, Book, Cond, Expr, LastClause, Stage, Word};
 use std::alloc::Global;
 
 fn is_one_of(name: &Word, names: &[Word]) -> bool

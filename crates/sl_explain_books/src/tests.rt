@@ -18,8 +18,8 @@ pub use names::around;
 use names::{explain_seats, explain_twice, explain_unknown};
 use numbers::{explain_seat_number, explain_share, explain_version};
 use sl_explain_texts::{Explanation, FaultCode, Language, Speaker};
-use sl_ratio::NoMemory;
-use sl_stages::{Book, CheckFault};
+use sl_base_quotients::NoMemory;
+use sl_law_meaning::{Book, CheckFault};
 use std::alloc::Global;
 
 /// Explains a test that the rulebook of a text fails.

@@ -15,7 +15,7 @@ use crate::whole::explain_whole;
 use character::{explain_character, explain_in_text};
 use sl_explain_texts::{Explanation, FaultCode, Language, Span, Speaker};
 use sl_lex::LexFault;
-use sl_ratio::{MAX_NAME_BYTES, NoMemory};
+use sl_base_quotients::{MAX_NAME_BYTES, NoMemory};
 use std::alloc::Global;
 
 // The longest keywords, which a word of more bytes may be meant for.

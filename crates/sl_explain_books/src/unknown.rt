@@ -10,8 +10,8 @@ use crate::texts::{
 };
 use sl_explain_texts::{Explanation, FaultCode, Language, Sentence, Speaker};
 use sl_laws::{ELECTIONS, STATUTES, law};
-use sl_ratio::NoMemory;
-use sl_stages::{Book, Stage};
+use sl_base_quotients::NoMemory;
+use sl_law_meaning::{Book, Stage};
 use std::alloc::Global;
 
 // What to say of an election, by its statute.

@@ -9,7 +9,7 @@ use crate::texts::{
     UTF16_FILE, UTF16_FILE_REMEDY,
 };
 use sl_explain_texts::{Explanation, FaultCode, Message, Speaker, packing_of};
-use sl_ratio::NoMemory;
+use sl_base_quotients::NoMemory;
 
 // What a file is that is no rulebook.
 struct Other {

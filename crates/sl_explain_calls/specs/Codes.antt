@@ -5,8 +5,8 @@ use Rattle.sl_count_code_files.specs.declared.refusal.CodeRefusal.TheVariants as
 use Rattle.sl_count_code_files.specs.declared.refusal.CodeRefusal.{CodeRefusal}
 use Rattle.sl_count_calls.specs.declared.judged.Judged.TheVariants as judged
 use Rattle.sl_count_calls.specs.declared.judged.Judged.{Judged}
-use Rattle.sl_stages.specs.declared.count.End.TheVariants as ends
-use Rattle.sl_stages.specs.declared.count.End.{End}
+use Rattle.sl_law_meaning.specs.declared.count.End.TheVariants as ends
+use Rattle.sl_law_meaning.specs.declared.count.End.{End}
 use Rattle.sl_desk.specs.declared.calls.run.JudgedRun.TheVariants as runs
 use Rattle.sl_desk.specs.declared.calls.run.JudgedRun.{JudgedRun}
 use Rattle.sl_explain_texts.specs.declared.code.FaultCode.TheVariants.{B01, B02, B22, C14, C15, R12}
@@ -25,7 +25,7 @@ use Rattle.sl_count_inputs.specs.declared.verdict.Verdict.TheVariants as verdict
 use Rattle.sl_count_inputs.specs.declared.verdict.Verdict.{Verdict}
 use Rattle.sl_machine.specs.declared.machine.Ending.TheVariants as ending
 use Rattle.sl_machine.specs.declared.machine.Ending.{Ending}
-use Rattle.sl_stages.specs.declared.checked.CheckedBook.{CheckedBook}
+use Rattle.sl_law_meaning.specs.declared.checked.CheckedBook.{CheckedBook}
 
 -- what an explanation is of
 pub record Subject : Type 0 where

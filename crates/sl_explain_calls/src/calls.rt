@@ -8,6 +8,7 @@ ghost use Rattle.sl_count_inputs.specs.declared.status.Input.TheVariants as inpu
 
 use crate::explained::Explained;
 use crate::refusals::{explain_book, explain_code, explain_election};
+use sl_base_quotients::NoMemory;
 use sl_code_instructions::Code;
 use sl_count_calls::{End, Judged, Outcome, Read};
 use sl_count_inputs::{Input, ReadBook, RefusedBook, Verdict};
@@ -16,7 +17,6 @@ use sl_explain_books::explain_unknown_stage;
 use sl_explain_faults::{explain_budget, explain_legal};
 use sl_explain_texts::Language;
 use sl_machine::Ending;
-use sl_ratio::NoMemory;
 use sl_stages::{Book, CheckedBook, LegalFault, Returns};
 use std::alloc::Global;
 

@@ -6,10 +6,10 @@ use crate::texts::{
     RETURNS_FIRST, RETURNS_THEN_BOOK, SCHEME, SHELL, STANDARD_INPUT, UNREAD_BEFORE, UNREAD_BOOK,
     UNREAD_CODE, UNREAD_NAMES, UNREAD_RETURNS, UNWRITTEN,
 };
+use sl_base_quotients::NoMemory;
 use sl_count_inputs::{DeskError, Input};
 use sl_explain_texts::{Explanation, Language, Message};
 use sl_laws::law;
-use sl_ratio::NoMemory;
 use std::alloc::Global;
 
 // The message that says which input cannot be opened.

@@ -5,6 +5,7 @@ ghost use Rattle.sl_explain_calls.specs.Codes.{book_code, election_code, refused
 ghost use Rattle.sl_count_inputs.specs.declared.status.Input.TheVariants as input;
 
 use crate::explained::Explained;
+use sl_base_quotients::NoMemory;
 use sl_count_code_files::CodeRefusal;
 use sl_count_inputs::{Input, RefusedBook, RefusedElection};
 use sl_explain_books::{
@@ -13,7 +14,6 @@ use sl_explain_books::{
 use sl_explain_faults::{explain_code_bytes, explain_code_kinds, explain_long_code};
 use sl_explain_returns::{explain_long_returns, explain_returns};
 use sl_explain_texts::{Explanation, Language};
-use sl_ratio::NoMemory;
 use std::alloc::Global;
 
 // What is said of a refused rulebook.

@@ -4,7 +4,7 @@ ghost use Rattle.std.specs.Prelude.{◌≡◌};
 
 use crate::texts::{self, EXAMPLE, REMEDY};
 use sl_explain_texts::{FaultCode, Language, Message, append};
-use sl_ratio::NoMemory;
+use sl_base_quotients::NoMemory;
 use std::alloc::Global;
 
 /// What is to be said of a code: a title, what it means, an example of a line that has the fault or of the line that tells of it, and what to do.

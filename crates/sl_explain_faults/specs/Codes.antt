@@ -4,9 +4,9 @@ use Rattle.sl_explain_texts.specs.declared.code.FaultCode.{FaultCode}
 use Rattle.sl_explain_texts.specs.declared.code.FaultCode.TheVariants.{L01, L02, L03, L04, L05, L06, C01, C02, C03, C04, C05, C06, C07, C08, C09, C10, C11, C12, C13}
 use Rattle.sl_code.specs.declared.fault.CodeFault.{CodeFault}
 use Rattle.sl_code.specs.declared.fault.CodeFault.TheVariants as files
-use Rattle.sl_stages.specs.declared.fault.FaultKind.{FaultKind}
-use Rattle.sl_stages.specs.declared.fault.FaultKind.TheVariants as legal
-use Rattle.sl_stages.specs.declared.fault.LegalFault.{LegalFault}
+use Rattle.sl_law_meaning.specs.declared.fault.FaultKind.{FaultKind}
+use Rattle.sl_law_meaning.specs.declared.fault.FaultKind.TheVariants as legal
+use Rattle.sl_law_meaning.specs.declared.fault.LegalFault.{LegalFault}
 use Rattle.sl_code_semantics.specs.declared.fault.VerifyFault.{VerifyFault}
 use Rattle.sl_code_semantics.specs.declared.fault.VerifyFault.TheVariants as kinds
 

@@ -8,12 +8,12 @@ use crate::texts::{
     AGAIN, BOOK, BUDGET, CHANGED, CODE_LIMIT, COUNT, EMPTY, JUMP, KIND, LONG, MAGIC, MEET, OP,
     ORDER, REGISTER, RETURNS, RUNS_OFF, SHORT_CODE, SLOT, TABLE, TRAILING, VERSION,
 };
+use sl_base_quotients::NoMemory;
 use sl_code::CodeFault;
 use sl_code_semantics::VerifyFault;
 use sl_explain_texts::{
     Explanation, FaultCode, Language, Message, Sentence, Span, Speaker, first_line,
 };
-use sl_ratio::NoMemory;
 use std::alloc::Global;
 
 // What is said of bytes that do not begin as a code file, and what to do.

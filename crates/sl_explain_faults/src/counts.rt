@@ -2,9 +2,9 @@
 
 ghost use Rattle.std.specs.Prelude.{◌≡◌, count_by, sum};
 ghost use Rattle.sl_explain_faults.specs.Winners.{is_winner_in};
-ghost use Rattle.sl_stages.specs.returns.Facts.{is_of};
+ghost use Rattle.sl_law_meaning.specs.returns.Facts.{is_of};
 
-use sl_ratio::NoMemory;
+use sl_base_quotients::NoMemory;
 use sl_stages::{Returns, Scope, Win};
 use std::alloc::Global;
 

@@ -12,8 +12,8 @@ use crate::texts::{
     WINNERS,
 };
 use crate::words::{item_words, party_name, scope_words, stage_name};
+use sl_base_quotients::NoMemory;
 use sl_explain_texts::{Explanation, FaultCode, Language, Message, Sentence, Speaker};
-use sl_ratio::NoMemory;
 use sl_stages::{FaultKind, Item, LegalFault, MAX_SEATS, Returns, Scope};
 use std::alloc::Global;
 

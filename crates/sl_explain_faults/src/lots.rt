@@ -6,8 +6,8 @@ use crate::texts::{
     DRAW, MISSING, NEAR_STAGE, NO_STAGE, NOT_LANDS, NOT_LISTS, NOT_PARTIES, NOT_WINNERS,
 };
 use crate::words::{item_words, land_name, party_name, stage_words, win_name};
+use sl_base_quotients::NoMemory;
 use sl_explain_texts::{Explanation, Message, Speaker, nearest};
-use sl_ratio::NoMemory;
 use sl_stages::{Item, Lot, Returns};
 use std::alloc::Global;
 

@@ -1,8 +1,8 @@
 //! The names of what a legal fault speaks of.
 
 use crate::texts::{ALL, LAND, LIST_OF, PARTY};
+use sl_base_quotients::NoMemory;
 use sl_explain_texts::{Speaker, append};
-use sl_ratio::NoMemory;
 use sl_stages::{Item, Returns, Scope};
 
 // How many names a sentence has at most.

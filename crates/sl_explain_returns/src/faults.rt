@@ -16,7 +16,7 @@ use crate::texts::{END_OTHERS, OUT_OF_MEMORY, RECORD, RIGHT_FILE, TABLE, TOO_LON
 use crate::twice::{explain_counted, explain_too_many, explain_twice};
 use crate::unknown::{explain_unknown, known_name_at};
 use sl_explain_texts::{Explanation, FaultCode, Language, Speaker};
-use sl_ratio::NoMemory;
+use sl_base_quotients::NoMemory;
 use sl_returns::{FaultKind, RefusedReturns, ReturnsFault};
 use sl_returns_places::RecordAtFault;
 use std::alloc::Global;

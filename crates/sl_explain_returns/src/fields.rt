@@ -12,7 +12,7 @@ use crate::texts::{
     SHORTEN_RECORD, SPLIT, WIN_FORM,
 };
 use sl_explain_texts::{Explanation, FaultCode, Message, Span};
-use sl_ratio::NoMemory;
+use sl_base_quotients::NoMemory;
 use sl_returns::{A, B, C, COLUMNS, Content, KIND, Kind, LAND, PARTY, column_name};
 
 /// The form of a kind.

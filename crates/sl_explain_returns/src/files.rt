@@ -8,7 +8,7 @@ use crate::texts::{
     UTF16, WORKBOOK, ZIPPED,
 };
 use sl_explain_texts::{Explanation, FaultCode, Message, Span, Speaker, first_line, packing_of};
-use sl_ratio::NoMemory;
+use sl_base_quotients::NoMemory;
 
 /// What a file is that is no text of cells, by its first bytes.
 #[derive(Clone, Copy)]

@@ -1,7 +1,7 @@
 //! What a cell looks like that should hold the digits of a number.
 
 use crate::digits::{are_digits, is_number};
-use sl_ratio::NoMemory;
+use sl_base_quotients::NoMemory;
 use std::alloc::Global;
 
 /// What a wrong number looks like.

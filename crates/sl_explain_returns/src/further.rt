@@ -6,7 +6,7 @@ use crate::case::Case;
 use crate::faults::explain_record;
 use crate::texts::{ALSO, LINE, MORE};
 use sl_explain_texts::{Explanation, line_at};
-use sl_ratio::NoMemory;
+use sl_base_quotients::NoMemory;
 use sl_returns::{RefusedRecord, RefusedReturns};
 use sl_returns_places::RecordAtFault;
 

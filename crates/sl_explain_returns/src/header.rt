@@ -12,7 +12,7 @@ use crate::texts::{
     REPLACE_SEMICOLONS, REPLACE_TABS, SEP, SHEETS, SHORTEN_HEADER, SPELLING, WIDE,
 };
 use sl_explain_texts::{Explanation, FaultCode, Message, Span, first_line};
-use sl_ratio::NoMemory;
+use sl_base_quotients::NoMemory;
 use sl_returns::{COLUMNS, KIND, Kind, column_name};
 
 // Marks that separate cells in place of commas.

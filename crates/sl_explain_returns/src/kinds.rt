@@ -9,7 +9,7 @@ use crate::texts::{
     NO_LAND_RECORD, OTHER_KIND,
 };
 use sl_explain_texts::{Explanation, FaultCode, Message, nearest};
-use sl_ratio::NoMemory;
+use sl_base_quotients::NoMemory;
 use sl_returns::{COLUMNS, KIND, Kind};
 
 // Other words for the kinds, in small letters, and the kinds that they mean.

@@ -10,7 +10,7 @@ use crate::texts::{
     OF_WIN, RENAME, SPELL, STAGE,
 };
 use sl_explain_texts::{Explanation, FaultCode, Message};
-use sl_ratio::{MAX_NAME_BYTES, NoMemory};
+use sl_base_quotients::{MAX_NAME_BYTES, NoMemory};
 use sl_returns::{Content, Named, column_name};
 
 /// What a name names, in words, and whether it is a stage's.

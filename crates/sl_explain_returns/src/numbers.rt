@@ -14,7 +14,7 @@ use crate::texts::{
     VALID, WINNER_WITHOUT_VOTES, WRITE, WRITE_COUNTED, WRITE_DIGITS, WRITE_KNOWN, WRITE_WHOLE,
 };
 use sl_explain_texts::{Explanation, FaultCode, Message, Speaker};
-use sl_ratio::NoMemory;
+use sl_base_quotients::NoMemory;
 use sl_returns::{A, B, C, Content, Quantity, column_name};
 
 // What a number counts, in words.

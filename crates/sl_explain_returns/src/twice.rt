@@ -10,7 +10,7 @@ use crate::texts::{
     WINS,
 };
 use sl_explain_texts::{Explanation, FaultCode, Message};
-use sl_ratio::NoMemory;
+use sl_base_quotients::NoMemory;
 use sl_returns::{A, B, Content, KIND, Kind, LAND, Named, PARTY};
 use sl_stages::{MAX_LANDS, MAX_LOTS, MAX_PARTIES, MAX_WINS};
 

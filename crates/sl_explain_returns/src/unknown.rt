@@ -9,7 +9,7 @@ use crate::texts::{
     NO_PARTY, NO_SUMS, NO_WIN,
 };
 use sl_explain_texts::{Explanation, FaultCode, Message, nearest};
-use sl_ratio::NoMemory;
+use sl_base_quotients::NoMemory;
 use sl_returns::{A, Before, Content, KIND, Kind, LAND, Named, PARTY};
 use sl_stages::Returns;
 use std::alloc::Global;

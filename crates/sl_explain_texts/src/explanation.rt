@@ -3,7 +3,7 @@
 ghost use Rattle.std.specs.Prelude.{◌≡◌, None, Some};
 
 use crate::code::FaultCode;
-use sl_ratio::NoMemory;
+use sl_base_quotients::NoMemory;
 use std::alloc::Global;
 
 /// Bytes of an input, by the offset of the first and that after the last, both from 0.

@@ -4,7 +4,7 @@ ghost use Rattle.std.specs.Prelude.{◌≡◌};
 ghost use Rattle.sl_explain_texts.specs.Languages.{error_word, in_language, language_of, language_word, locale_language, warning_word};
 
 use crate::code::FaultCode;
-use sl_ratio::NoMemory;
+use sl_base_quotients::NoMemory;
 use std::alloc::Global;
 
 /// The language in which a person is spoken to.

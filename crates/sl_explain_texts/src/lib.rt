@@ -1,7 +1,7 @@
 //! Explanations for people: a sentence with the code of the fault, the place in a file, the line that stands there with a mark, and what to do, in
 //! English or in German.
 //!
-//! Stands on `sl_ratio`; used by the rooms explain, report and terminal. Proved: an explanation begins with its code.
+//! Stands on `sl_base_quotients`; used by the rooms explain, report and terminal. Proved: an explanation begins with its code.
 //!
 //! Where an error is `NoMemory` alone, memory ran out, and nothing else is wrong.
 #![tactic(auto)]

@@ -1,6 +1,6 @@
 //! The name that a misspelt one was likely meant for.
 
-use sl_ratio::NoMemory;
+use sl_base_quotients::NoMemory;
 use std::alloc::Global;
 use strsim::generic_damerau_levenshtein;
 

@@ -9,7 +9,7 @@ use crate::language::{HELP, Language};
 use crate::line::line_at;
 use crate::parts::{append, begins_character, from, until};
 use crate::shown::{push_shown, shown_count};
-use sl_ratio::NoMemory;
+use sl_base_quotients::NoMemory;
 use std::alloc::Global;
 
 // The most bytes of a line that are shown before the mark, and the most characters in all.

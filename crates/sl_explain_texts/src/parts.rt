@@ -1,6 +1,6 @@
 //! Parts of texts, and texts put together from them.
 
-use sl_ratio::NoMemory;
+use sl_base_quotients::NoMemory;
 
 /// Adds parts to the end of a text.
 pub fn append(text: &mut Vec<u8>, parts: &[&[u8]]) -> Result<(), NoMemory> {

@@ -1,7 +1,7 @@
 //! Bytes of an input as they are shown to a person.
 
 use crate::parts::begins_character;
-use sl_ratio::NoMemory;
+use sl_base_quotients::NoMemory;
 
 // What stands for a character that is not shown.
 const REPLACED: char = '\u{FFFD}';

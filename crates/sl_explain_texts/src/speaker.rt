@@ -7,7 +7,7 @@ use crate::language::{AND, Language, MEANT, Message, OR, Sentence};
 use crate::names::nearest;
 use crate::parts::{begins_character, from, until};
 use crate::shown::push_shown;
-use sl_ratio::NoMemory;
+use sl_base_quotients::NoMemory;
 use std::alloc::Global;
 
 // How many bytes of an input a sentence repeats, up to the next character.

@@ -1,15 +1,15 @@
 -- Allocations by tests that compute: some, and the only ones.
 use Rattle.std.proofs.Common.{◌≡◌, ℕ, Bool, true, false, List, length, sum, refl}
-use Rattle.sl_ratio.specs.declared.method.Divisor.{Divisor}
-use Rattle.sl_stages.specs.methods.Allocations.{IsDivisorAllocation}
-use Rattle.sl_stages.specs.methods.Covering.{IsCovering}
-use Rattle.sl_stages.specs.methods.Hamilton.{IsHamiltonAllocation}
-use Rattle.sl_stages.specs.laws.Ladders.{divisor_ladders, hamilton_ladders, covering_ladders}
-use Rattle.sl_stages.specs.laws.MethodLaws.{AllHaveVotes}
-use Rattle.sl_stages.proofs.methods.CoveringProofs.{covering_tops}
-use Rattle.sl_stages.proofs.methods.LadderProofs.{batches}
-use Rattle.sl_stages.proofs.methods.DivisorProofs.{divisor_tops}
-use Rattle.sl_stages.proofs.methods.HamiltonProofs.{hamilton_tops}
+use Rattle.sl_base_quotients.specs.declared.method.Divisor.{Divisor}
+use Rattle.sl_law_meaning.specs.methods.Allocations.{IsDivisorAllocation}
+use Rattle.sl_law_meaning.specs.methods.Covering.{IsCovering}
+use Rattle.sl_law_meaning.specs.methods.Hamilton.{IsHamiltonAllocation}
+use Rattle.sl_law_meaning.specs.laws.Ladders.{divisor_ladders, hamilton_ladders, covering_ladders}
+use Rattle.sl_law_meaning.specs.laws.MethodLaws.{AllHaveVotes}
+use Rattle.sl_law_meaning.proofs.methods.CoveringProofs.{covering_tops}
+use Rattle.sl_law_meaning.proofs.methods.LadderProofs.{batches}
+use Rattle.sl_law_meaning.proofs.methods.DivisorProofs.{divisor_tops}
+use Rattle.sl_law_meaning.proofs.methods.HamiltonProofs.{hamilton_tops}
 use Rattle.sl_law_examples.specs.Failures.{IsOnly}
 use Rattle.sl_law_examples.proofs.Tested.{settled_test, top_test, settled_by_test, top_by_test}
 

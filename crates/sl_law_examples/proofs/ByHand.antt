@@ -1,7 +1,7 @@
 -- Published results by products, and that these seats are the only ones, by tests that compute.
 use Rattle.std.proofs.Common.{zero, suc, true, [], ◌∷◌, arith, refl}
-use Rattle.sl_ratio.specs.declared.method.Divisor.TheVariants.{Webster}
-use Rattle.sl_stages.specs.laws.MethodLaws.{AllHaveVotes}
+use Rattle.sl_base_quotients.specs.declared.method.Divisor.TheVariants.{Webster}
+use Rattle.sl_law_meaning.specs.laws.MethodLaws.{AllHaveVotes}
 use Rattle.sl_law_examples.specs.ByHand.{Divided2025, votes_2025, seats_2025, Quoted2005, votes_2005, Covered}
 use Rattle.sl_law_examples.proofs.Allocated.{divisor_only, hamilton_only_with, covering_only}
 

@@ -1,7 +1,7 @@
 -- What fails by Dean's and Hill's methods too, and where two entries join, by tests that compute.
 use Rattle.std.proofs.Common.{◌≡◌, ℕ, zero, suc, ◌+◌, List, [], ◌∷◌, get_or, arith, refl}
 use Rattle.std.specs.Prelude.{◌≢◌}
-use Rattle.sl_ratio.specs.declared.method.Divisor.TheVariants.{Adams, Dean, Hill, Jefferson}
+use Rattle.sl_base_quotients.specs.declared.method.Divisor.TheVariants.{Adams, Dean, Hill, Jefferson}
 use Rattle.sl_law_fairness.specs.Joining.{Joins}
 use Rattle.sl_law_examples.specs.Joined.{BelowQuota, AboveQuota, LessThanHalf, JoinLoses, JoinWins, JeffersonWins, HamiltonLoses, HamiltonWins}
 use Rattle.sl_law_examples.proofs.Allocated.{divisor_only, hamilton_only}

@@ -1,9 +1,9 @@
 -- What fails with equal votes, and with entries that are named twice, under each divisor method.
 use Rattle.std.proofs.Common.{◌≡◌, ℕ, zero, suc, List, [], ◌∷◌, get_or, arith, refl}
 use Rattle.std.specs.Prelude.{Contains}
-use Rattle.sl_ratio.specs.declared.method.Divisor.{Divisor}
-use Rattle.sl_ratio.specs.declared.method.Divisor.TheVariants.{Adams, Dean, Hill, Webster, Jefferson}
-use Rattle.sl_stages.proofs.methods.RaisedSeats.{Contains-head, Contains-tail}
+use Rattle.sl_base_quotients.specs.declared.method.Divisor.{Divisor}
+use Rattle.sl_base_quotients.specs.declared.method.Divisor.TheVariants.{Adams, Dean, Hill, Webster, Jefferson}
+use Rattle.sl_law_meaning.proofs.methods.RaisedSeats.{Contains-head, Contains-tail}
 use Rattle.sl_law_examples.specs.Failures.{Free, EqualVotes, LargerHouseByTie, first_twice, NamedTwice}
 use Rattle.sl_law_examples.proofs.Allocated.{divisor_some}
 

@@ -1,9 +1,9 @@
 -- What fails where a house grows, and the bound on growth of the house of 2013.
 use Rattle.std.proofs.Common.{◌≡◌, ℕ, zero, suc, ◌+◌, ◌-◌, ◌*◌, ◌<◌, ◌≤◌, List, [], ◌∷◌, get_or, sum, inr, arith, refl, sym, subst}
-use Rattle.sl_ratio.specs.declared.method.Divisor.{Divisor}
-use Rattle.sl_ratio.specs.declared.method.Divisor.TheVariants.{Adams, Dean, Hill, Webster, Jefferson}
-use Rattle.sl_stages.specs.methods.LeastHouse.{outside_sum, Meets, Serves, IsGrowth, GrownTo, IsGrownAllocation}
-use Rattle.sl_stages.proofs.methods.SeatSums.{entry_le_sum}
+use Rattle.sl_base_quotients.specs.declared.method.Divisor.{Divisor}
+use Rattle.sl_base_quotients.specs.declared.method.Divisor.TheVariants.{Adams, Dean, Hill, Webster, Jefferson}
+use Rattle.sl_law_meaning.specs.methods.LeastHouse.{outside_sum, Meets, Serves, IsGrowth, GrownTo, IsGrownAllocation}
+use Rattle.sl_law_meaning.proofs.methods.SeatSums.{entry_le_sum}
 use Rattle.sl_law_fairness.specs.ClosedHouse.{needed_by, HasMinimum}
 use Rattle.sl_law_fairness.specs.Growths.{MeetsEach}
 use Rattle.sl_law_fairness.proofs.ClosedHouse.{closed_house}

@@ -1,7 +1,7 @@
 -- What fails where two entries join.
 use Rattle.std.proofs.Common.{◌≡◌, ℕ, zero, suc, [], ◌∷◌, get_or, arith, refl}
 use Rattle.std.specs.Prelude.{◌≢◌}
-use Rattle.sl_ratio.specs.declared.method.Divisor.TheVariants.{Adams, Webster, Jefferson}
+use Rattle.sl_base_quotients.specs.declared.method.Divisor.TheVariants.{Adams, Webster, Jefferson}
 use Rattle.sl_law_fairness.specs.Joining.{Joins}
 use Rattle.sl_law_examples.specs.Failures.{JeffersonByTie, AdamsByTie, WebsterLoses, WebsterWins}
 use Rattle.sl_law_examples.proofs.Allocated.{divisor_some, divisor_only}

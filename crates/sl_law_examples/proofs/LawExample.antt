@@ -1,20 +1,20 @@
 -- The election under the law of 1956, stage by stage.
 use Rattle.std.proofs.Common.{◌≡◌, ℕ, [], ◌∷◌, true, sum, refl}
 use Rattle.std.specs.Prelude.{codes}
-use Rattle.sl_ratio.specs.declared.method.Divisor.TheVariants.{Jefferson}
-use Rattle.sl_stages.specs.declared.table.Outcome.TheVariants as outcome
-use Rattle.sl_stages.specs.methods.Allocations.{IsDivisorAllocation}
-use Rattle.sl_stages.specs.book.Trees.{StageTree}
-use Rattle.sl_stages.specs.methods.Ties.{Decided, IsChoice}
-use Rattle.sl_stages.specs.laws.Ladders.{divisor_ladders}
-use Rattle.sl_stages.specs.meaning.Splits.{Seats}
-use Rattle.sl_stages.specs.meaning.Results.{Column, plain}
-use Rattle.sl_stages.specs.meaning.Means.{nothing_known, context_of}
+use Rattle.sl_base_quotients.specs.declared.method.Divisor.TheVariants.{Jefferson}
+use Rattle.sl_law_meaning.specs.declared.table.Outcome.TheVariants as outcome
+use Rattle.sl_law_meaning.specs.methods.Allocations.{IsDivisorAllocation}
+use Rattle.sl_law_meaning.specs.book.Trees.{StageTree}
+use Rattle.sl_law_meaning.specs.methods.Ties.{Decided, IsChoice}
+use Rattle.sl_law_meaning.specs.laws.Ladders.{divisor_ladders}
+use Rattle.sl_law_meaning.specs.meaning.Splits.{Seats}
+use Rattle.sl_law_meaning.specs.meaning.Results.{Column, plain}
+use Rattle.sl_law_meaning.specs.meaning.Means.{nothing_known, context_of}
 use Rattle.sl_law_examples.specs.LawExample.{pool, upper, lower, law_of_1956, two_lands, table_of_1956, LawOf1956}
-use Rattle.sl_stages.proofs.methods.DivisorProofs.{divisor_tops}
+use Rattle.sl_law_meaning.proofs.methods.DivisorProofs.{divisor_tops}
 use Rattle.sl_law_examples.proofs.SettledTests.{settled_test}
-use Rattle.sl_stages.proofs.meaning.PlainRuns.{to_means, then_plain}
-use Rattle.sl_stages.proofs.meaning.MeaningProofs.{same_itself}
+use Rattle.sl_law_meaning.proofs.meaning.PlainRuns.{to_means, then_plain}
+use Rattle.sl_law_meaning.proofs.meaning.MeaningProofs.{same_itself}
 use Rattle.sl_law_examples.proofs.WorkedExamples.{decided}
 
 -- two entries whose seats nobody disputes

@@ -1,47 +1,47 @@
 -- The small elections, step by step.
 use Rattle.std.proofs.Common.{ℕ, List, [], ◌∷◌, Option, Some, None, inl, inr, arith, refl}
 use Rattle.std.specs.Prelude.{unwrap_or, codes}
-use Rattle.sl_ratio.specs.declared.method.Divisor.TheVariants.{Webster, Jefferson}
-use Rattle.sl_ratio.specs.declared.method.Method.{Method}
-use Rattle.sl_ratio.specs.declared.method.Method.TheVariants as by
-use Rattle.sl_stages.specs.declared.fact.Fact.TheVariants as facts
-use Rattle.sl_stages.specs.declared.book.Cond.TheVariants as condition
-use Rattle.sl_stages.specs.declared.book.Majority.{Majority}
-use Rattle.sl_stages.specs.declared.book.Majority.TheVariants as majority
-use Rattle.sl_stages.specs.declared.book.Seating.{Seating}
-use Rattle.sl_stages.specs.declared.book.Seating.TheVariants as seating
+use Rattle.sl_base_quotients.specs.declared.method.Divisor.TheVariants.{Webster, Jefferson}
+use Rattle.sl_base_quotients.specs.declared.method.Method.{Method}
+use Rattle.sl_base_quotients.specs.declared.method.Method.TheVariants as by
+use Rattle.sl_law_meaning.specs.declared.fact.Fact.TheVariants as facts
+use Rattle.sl_law_meaning.specs.declared.book.Cond.TheVariants as condition
+use Rattle.sl_law_meaning.specs.declared.book.Majority.{Majority}
+use Rattle.sl_law_meaning.specs.declared.book.Majority.TheVariants as majority
+use Rattle.sl_law_meaning.specs.declared.book.Seating.{Seating}
+use Rattle.sl_law_meaning.specs.declared.book.Seating.TheVariants as seating
 use Rattle.sl_base_terms.specs.declared.shape.Shape.TheVariants as shape
-use Rattle.sl_stages.specs.declared.fault.LegalFault.{LegalFault}
-use Rattle.sl_stages.specs.declared.fault.Scope.TheVariants as scope
-use Rattle.sl_stages.specs.declared.fault.FaultKind.TheVariants as fault
-use Rattle.sl_stages.specs.declared.returns.Lot.{Lot}
-use Rattle.sl_stages.specs.declared.table.Outcome.{Outcome}
-use Rattle.sl_stages.specs.declared.table.Outcome.TheVariants as outcome
-use Rattle.sl_stages.specs.book.Trees.{ExprTree, fact}
-use Rattle.sl_stages.specs.returns.Election.{Election}
-use Rattle.sl_stages.specs.returns.Facts.{counted_votes, list_winners}
-use Rattle.sl_stages.specs.methods.Allocations.{IsDivisorAllocation}
-use Rattle.sl_stages.specs.methods.Covering.{IsCovering}
-use Rattle.sl_stages.specs.methods.Ties.{Decided, Tied, IsChoice}
-use Rattle.sl_stages.specs.methods.LeastHouse.{GrownTo, EmptyField}
+use Rattle.sl_law_meaning.specs.declared.fault.LegalFault.{LegalFault}
+use Rattle.sl_law_meaning.specs.declared.fault.Scope.TheVariants as scope
+use Rattle.sl_law_meaning.specs.declared.fault.FaultKind.TheVariants as fault
+use Rattle.sl_law_meaning.specs.declared.election.Lot.{Lot}
+use Rattle.sl_law_meaning.specs.declared.table.Outcome.{Outcome}
+use Rattle.sl_law_meaning.specs.declared.table.Outcome.TheVariants as outcome
+use Rattle.sl_law_meaning.specs.book.Trees.{ExprTree, fact}
+use Rattle.sl_law_meaning.specs.returns.Election.{Election}
+use Rattle.sl_law_meaning.specs.returns.Facts.{counted_votes, list_winners}
+use Rattle.sl_law_meaning.specs.methods.Allocations.{IsDivisorAllocation}
+use Rattle.sl_law_meaning.specs.methods.Covering.{IsCovering}
+use Rattle.sl_law_meaning.specs.methods.Ties.{Decided, Tied, IsChoice}
+use Rattle.sl_law_meaning.specs.methods.LeastHouse.{GrownTo, EmptyField}
 use Rattle.sl_law_examples.specs.Examples.{two_seats}
-use Rattle.sl_stages.specs.laws.Ladders.{divisor_ladders, covering_ladders}
-use Rattle.sl_stages.specs.meaning.Scopes.{all_lists}
-use Rattle.sl_stages.specs.meaning.Lots.{stage_lot}
-use Rattle.sl_stages.specs.meaning.Records.{Records}
-use Rattle.sl_stages.specs.meaning.Splits.{Seats, Refused, entries_at}
-use Rattle.sl_stages.specs.meaning.Results.{ExprResult, Column, Fault, fault_at}
-use Rattle.sl_stages.specs.meaning.Expressions.{Context, ExprMeans, IsSplit, IsGrown, stand}
-use Rattle.sl_stages.specs.meaning.Means.{Means, nothing_known, context_of, with_stage, Through, Stopped, IsSeated}
+use Rattle.sl_law_meaning.specs.laws.Ladders.{divisor_ladders, covering_ladders}
+use Rattle.sl_law_meaning.specs.meaning.Scopes.{all_lists}
+use Rattle.sl_law_meaning.specs.meaning.Lots.{stage_lot}
+use Rattle.sl_law_meaning.specs.meaning.Records.{Records}
+use Rattle.sl_law_meaning.specs.meaning.Splits.{Seats, Refused, entries_at}
+use Rattle.sl_law_meaning.specs.meaning.Results.{ExprResult, Column, Fault, fault_at}
+use Rattle.sl_law_meaning.specs.meaning.Expressions.{Context, ExprMeans, IsSplit, IsGrown, stand}
+use Rattle.sl_law_meaning.specs.meaning.Means.{Means, nothing_known, context_of, with_stage, Through, Stopped, IsSeated}
 use Rattle.sl_law_examples.specs.SmallElections.{stage_s, house_split, house_split_from, house_grown, one_stage, one_land, votes, win, lot, winner_lot}
 use Rattle.sl_law_examples.specs.MeaningExamples.{by_webster, thirty_ten, TiesAndLots, MinimaAndGrowth, Refusals, LastClauses}
-use Rattle.sl_stages.proofs.methods.DivisorProofs.{empty_fields, divisor_tops}
-use Rattle.sl_stages.proofs.methods.CoveringProofs.{covering_tops}
-use Rattle.sl_stages.proofs.methods.LadderProofs.{batches, raise_each}
-use Rattle.sl_stages.proofs.methods.RaisedSeats.{Contains-cases, Contains-none}
+use Rattle.sl_law_meaning.proofs.methods.DivisorProofs.{empty_fields, divisor_tops}
+use Rattle.sl_law_meaning.proofs.methods.CoveringProofs.{covering_tops}
+use Rattle.sl_law_meaning.proofs.methods.LadderProofs.{batches, raise_each}
+use Rattle.sl_law_meaning.proofs.methods.RaisedSeats.{Contains-cases, Contains-none}
 use Rattle.sl_law_examples.proofs.SettledTests.{settled_by_test, peers_by_test, names_by_test}
-use Rattle.sl_stages.proofs.meaning.PlainRuns.{then_plain}
-use Rattle.sl_stages.proofs.meaning.MeaningProofs.{same_itself}
+use Rattle.sl_law_meaning.proofs.meaning.PlainRuns.{then_plain}
+use Rattle.sl_law_meaning.proofs.meaning.MeaningProofs.{same_itself}
 use Rattle.sl_law_examples.proofs.WorkedExamples.{decided, three_votes, webster_thirty_ten, first_seats, hamilton_majority, three_winners}
 
 -- ---- a book of one stage: the stage's fault is the outcome, or its column goes to the last clause

@@ -1,7 +1,7 @@
 -- What fails where a premise is missing.
 use Rattle.std.proofs.Common.{ℕ, zero, suc, ◌≤◌, [], ◌∷◌, arith, refl, sym, subst}
-use Rattle.sl_ratio.specs.declared.method.Divisor.TheVariants.{Adams, Dean, Hill, Webster, Jefferson}
-use Rattle.sl_stages.specs.methods.LeastHouse.{Meets, Serves}
+use Rattle.sl_base_quotients.specs.declared.method.Divisor.TheVariants.{Adams, Dean, Hill, Webster, Jefferson}
+use Rattle.sl_law_meaning.specs.methods.LeastHouse.{Meets, Serves}
 use Rattle.sl_law_examples.specs.Failures.{IsOnly, Free, MoreVotesByLot, FewerVotesByLot, FewerVotesByMinima, MoreVotesAmongOthers, MajorityByMinima, WebsterMajority, HalfOfEven, HouseGrows}
 use Rattle.sl_law_examples.proofs.Allocated.{divisor_some, divisor_only}
 

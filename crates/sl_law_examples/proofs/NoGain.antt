@@ -1,21 +1,21 @@
 -- Votes that a party lacks, and no seat gained by the older statutes, stage by stage.
 use Rattle.std.proofs.Common.{◌≡◌, ℕ, zero, suc, ◌≤◌, true, false, List, [], ◌∷◌, arith, refl, sym, subst}
 use Rattle.std.specs.Prelude.{codes}
-use Rattle.sl_ratio.specs.declared.method.Divisor.TheVariants.{Webster, Jefferson}
-use Rattle.sl_ratio.specs.declared.method.Method.{Method}
-use Rattle.sl_ratio.specs.declared.method.Method.TheVariants as by
-use Rattle.sl_stages.specs.declared.book.Majority.{Majority}
-use Rattle.sl_stages.specs.declared.book.Majority.TheVariants as majority
-use Rattle.sl_stages.specs.declared.fact.Fact.TheVariants as facts
-use Rattle.sl_stages.specs.book.Typing.{is_typed}
-use Rattle.sl_stages.specs.methods.LeastHouse.{Meets, Serves, GrownTo, IsGrowth}
-use Rattle.sl_stages.specs.methods.Ties.{Decided}
-use Rattle.sl_stages.specs.returns.Election.{Election, IsElection, with_list}
-use Rattle.sl_stages.specs.meaning.Results.{Column, plain}
-use Rattle.sl_stages.specs.meaning.Splits.{Seats, award_of}
-use Rattle.sl_stages.specs.meaning.Means.{nothing_known, context_of}
-use Rattle.sl_stages.proofs.Elections.{is_with_list}
-use Rattle.sl_stages.proofs.meaning.PlainRuns.{to_means, then_plain}
+use Rattle.sl_base_quotients.specs.declared.method.Divisor.TheVariants.{Webster, Jefferson}
+use Rattle.sl_base_quotients.specs.declared.method.Method.{Method}
+use Rattle.sl_base_quotients.specs.declared.method.Method.TheVariants as by
+use Rattle.sl_law_meaning.specs.declared.book.Majority.{Majority}
+use Rattle.sl_law_meaning.specs.declared.book.Majority.TheVariants as majority
+use Rattle.sl_law_meaning.specs.declared.fact.Fact.TheVariants as facts
+use Rattle.sl_law_meaning.specs.book.Typing.{is_typed}
+use Rattle.sl_law_meaning.specs.methods.LeastHouse.{Meets, Serves, GrownTo, IsGrowth}
+use Rattle.sl_law_meaning.specs.methods.Ties.{Decided}
+use Rattle.sl_law_meaning.specs.returns.Election.{Election, IsElection, with_list}
+use Rattle.sl_law_meaning.specs.meaning.Results.{Column, plain}
+use Rattle.sl_law_meaning.specs.meaning.Splits.{Seats, award_of}
+use Rattle.sl_law_meaning.specs.meaning.Means.{nothing_known, context_of}
+use Rattle.sl_law_meaning.proofs.Elections.{is_with_list}
+use Rattle.sl_law_meaning.proofs.meaning.PlainRuns.{to_means, then_plain}
 use Rattle.sl_law_statutes.specs.Trees.{common, pool, keep, law_of_2013}
 use Rattle.sl_law_statutes.specs.Parties.{IsGain}
 use Rattle.sl_law_examples.specs.VotesThatCost.{votes, Gives, Changes}

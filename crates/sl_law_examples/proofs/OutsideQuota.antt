@@ -1,8 +1,8 @@
 -- Allocations outside quota.
 use Rattle.std.proofs.Common.{[], ◌∷◌, refl}
-use Rattle.sl_ratio.specs.declared.method.Divisor.{Divisor}
-use Rattle.sl_ratio.specs.declared.method.Divisor.TheVariants.{Adams, Dean, Hill, Webster, Jefferson}
-use Rattle.sl_stages.specs.methods.Allocations.{IsDivisorAllocation}
+use Rattle.sl_base_quotients.specs.declared.method.Divisor.{Divisor}
+use Rattle.sl_base_quotients.specs.declared.method.Divisor.TheVariants.{Adams, Dean, Hill, Webster, Jefferson}
+use Rattle.sl_law_meaning.specs.methods.Allocations.{IsDivisorAllocation}
 use Rattle.sl_law_examples.specs.Failures.{IsOnly, WebsterBelow, WebsterAbove, JeffersonAbove, MinimaOutside}
 use Rattle.sl_law_examples.proofs.Allocated.{divisor_only}
 

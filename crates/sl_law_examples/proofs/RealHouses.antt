@@ -1,6 +1,6 @@
 -- The house of 2013, by the closed form of a growth.
 use Rattle.std.proofs.Common.{◌≡◌, ℕ, zero, suc, ◌+◌, ◌≤◌, inr, arith, refl}
-use Rattle.sl_stages.specs.methods.LeastHouse.{outside_sum}
+use Rattle.sl_law_meaning.specs.methods.LeastHouse.{outside_sum}
 use Rattle.sl_law_fairness.specs.ClosedHouse.{needed_by, HasMinimum}
 use Rattle.sl_law_fairness.proofs.ClosedHouse.{closed_house}
 use Rattle.sl_law_examples.specs.ByHand.{votes_2013, floors_2013, House2013}

@@ -1,19 +1,19 @@
 -- The small elections with several scopes, stage by stage.
 use Rattle.std.proofs.Common.{◌≡◌, ℕ, true, [], ◌∷◌, refl}
-use Rattle.sl_ratio.specs.declared.method.Divisor.TheVariants.{Webster}
-use Rattle.sl_stages.specs.declared.fault.FaultKind.TheVariants as fault
-use Rattle.sl_stages.specs.declared.table.Outcome.TheVariants as outcome
-use Rattle.sl_stages.specs.methods.Allocations.{IsDivisorAllocation}
-use Rattle.sl_stages.specs.methods.Ties.{Decided, Tied, IsChoice}
-use Rattle.sl_stages.specs.laws.Ladders.{divisor_ladders}
-use Rattle.sl_stages.specs.meaning.Splits.{Seats, Refused}
-use Rattle.sl_stages.specs.meaning.Results.{Column, Fault}
-use Rattle.sl_stages.specs.meaning.Means.{Stopped}
+use Rattle.sl_base_quotients.specs.declared.method.Divisor.TheVariants.{Webster}
+use Rattle.sl_law_meaning.specs.declared.fault.FaultKind.TheVariants as fault
+use Rattle.sl_law_meaning.specs.declared.table.Outcome.TheVariants as outcome
+use Rattle.sl_law_meaning.specs.methods.Allocations.{IsDivisorAllocation}
+use Rattle.sl_law_meaning.specs.methods.Ties.{Decided, Tied, IsChoice}
+use Rattle.sl_law_meaning.specs.laws.Ladders.{divisor_ladders}
+use Rattle.sl_law_meaning.specs.meaning.Splits.{Seats, Refused}
+use Rattle.sl_law_meaning.specs.meaning.Results.{Column, Fault}
+use Rattle.sl_law_meaning.specs.meaning.Means.{Stopped}
 use Rattle.sl_law_examples.specs.ScopeExamples.{SeveralScopes}
-use Rattle.sl_stages.proofs.methods.DivisorProofs.{divisor_tops}
+use Rattle.sl_law_meaning.proofs.methods.DivisorProofs.{divisor_tops}
 use Rattle.sl_law_examples.proofs.SettledTests.{settled_test}
-use Rattle.sl_stages.proofs.meaning.PlainRuns.{then_plain}
-use Rattle.sl_stages.proofs.meaning.MeaningProofs.{same_itself}
+use Rattle.sl_law_meaning.proofs.meaning.PlainRuns.{then_plain}
+use Rattle.sl_law_meaning.proofs.meaning.MeaningProofs.{same_itself}
 use Rattle.sl_law_examples.proofs.WorkedExamples.{decided, webster_thirty_ten}
 
 -- one seat for the only list

@@ -5,11 +5,11 @@ use Rattle.std.specs.List.{list_any, list_all}
 use Rattle.std.specs.List.Sorted.{IsStrictlyIncreasing}
 use Rattle.std.proofs.lemmas.Bool.{cases_lt, cases_eq, cases_Bool, and_parts, or_cases, leb-true, ltb-true, not-true, not_from_false, both_ways, le-ltb, ltb-false, and_from, or_left, or_right}
 use Rattle.std.proofs.lemmas.List.{get_or_past}
-use Rattle.sl_stages.specs.methods.Steps.{is_below}
-use Rattle.sl_stages.specs.methods.Ties.{Lists, NamesAll}
-use Rattle.sl_stages.specs.laws.Ladders.{Ladders, AreFalling, IsSettled, IsPeer}
-use Rattle.sl_stages.proofs.methods.RaisedSeats.{Contains-cases, Contains-none, increasing-cons}
-use Rattle.sl_stages.proofs.methods.DrawnLots.{is_in, stands_in}
+use Rattle.sl_law_meaning.specs.methods.Steps.{is_below}
+use Rattle.sl_law_meaning.specs.methods.Ties.{Lists, NamesAll}
+use Rattle.sl_law_meaning.specs.laws.Ladders.{Ladders, AreFalling, IsSettled, IsPeer}
+use Rattle.sl_law_meaning.proofs.methods.RaisedSeats.{Contains-cases, Contains-none, increasing-cons}
+use Rattle.sl_law_meaning.proofs.methods.DrawnLots.{is_in, stands_in}
 
 -- the test passes at each number below n
 abbrev pub all_below : (ℕ → Bool) → ℕ → Bool

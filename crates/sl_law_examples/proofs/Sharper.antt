@@ -1,7 +1,7 @@
 -- Where a premise is missing, or an equivalence fails.
 use Rattle.std.proofs.Common.{◌≡◌, ℕ, zero, suc, ◌+◌, ◌*◌, ◌<◌, ◌≤◌, ◌⊎◌, List, [], ◌∷◌, length, get_or, sum, inl, inr, arith, refl}
 use Rattle.std.proofs.lemmas.Bool.{cases_lt}
-use Rattle.sl_stages.proofs.methods.SeatSums.{sum-cons}
+use Rattle.sl_law_meaning.proofs.methods.SeatSums.{sum-cons}
 use Rattle.sl_law_examples.specs.Failures.{NoVotes, LeastMostByTie}
 
 pub no_votes : NoVotes

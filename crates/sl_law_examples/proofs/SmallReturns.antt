@@ -3,33 +3,33 @@ use Rattle.std.proofs.Common.{◌≡◌, ℕ, ◌+◌, ◌<◌, ◌≤◌, Bool,
 use Rattle.std.specs.Prelude.{codes}
 use Rattle.std.proofs.lemmas.List.Elements.{All-nil}
 use Rattle.std.proofs.lemmas.Option.{none-some, same_Some}
-use Rattle.sl_ratio.specs.declared.limits.TheConstants.{MAX_LANDS, MAX_PARTIES}
-use Rattle.sl_ratio.specs.declared.method.Divisor.{Divisor}
-use Rattle.sl_stages.specs.declared.limits.TheConstants.{MAX_WINS}
-use Rattle.sl_stages.specs.declared.book.Seating.TheVariants as seating
-use Rattle.sl_stages.specs.declared.table.Outcome.TheVariants as outcome
-use Rattle.sl_stages.specs.book.Trees.{BookTree}
-use Rattle.sl_stages.specs.book.Typing.{is_typed}
-use Rattle.sl_stages.specs.returns.Votes.{IsListVotes}
-use Rattle.sl_stages.specs.returns.Election.{Election, IsElection, IsWin, AreNames, no_election}
-use Rattle.sl_stages.specs.returns.Facts.{by_party}
-use Rattle.sl_stages.specs.methods.Allocations.{IsDivisorAllocation}
-use Rattle.sl_stages.specs.methods.Ties.{Decided, IsChoice}
-use Rattle.sl_stages.specs.methods.Hamilton.{IsHamiltonAllocation}
-use Rattle.sl_stages.specs.methods.Covering.{IsCovering}
-use Rattle.sl_stages.specs.laws.Ladders.{divisor_ladders, hamilton_ladders, covering_ladders}
-use Rattle.sl_stages.specs.laws.MethodLaws.{AllHaveVotes}
-use Rattle.sl_stages.specs.meaning.Columns.{IsLeaf}
-use Rattle.sl_stages.specs.meaning.Seating.{base_of, keep_table}
-use Rattle.sl_stages.specs.meaning.Tables.{SeatTable}
-use Rattle.sl_stages.specs.meaning.Means.{Known, Through, nothing_known, StagesMean, IsSeated, SameTable, Means}
-use Rattle.sl_stages.proofs.Elections.{is_with_house, is_with_land, is_with_party}
-use Rattle.sl_stages.proofs.meaning.MeaningProofs.{same_itself, at_most_one_outcome}
-use Rattle.sl_stages.proofs.methods.DivisorProofs.{divisor_tops}
-use Rattle.sl_stages.proofs.methods.HamiltonProofs.{hamilton_tops}
-use Rattle.sl_stages.proofs.methods.LadderProofs.{batches}
-use Rattle.sl_stages.proofs.methods.CoveringProofs.{covering_tops}
-use Rattle.sl_stages.proofs.methods.SeatSums.{length_zeros}
+use Rattle.sl_base_quotients.specs.declared.limits.TheConstants.{MAX_LANDS, MAX_PARTIES}
+use Rattle.sl_base_quotients.specs.declared.method.Divisor.{Divisor}
+use Rattle.sl_law_meaning.specs.declared.limits.TheConstants.{MAX_WINS}
+use Rattle.sl_law_meaning.specs.declared.book.Seating.TheVariants as seating
+use Rattle.sl_law_meaning.specs.declared.table.Outcome.TheVariants as outcome
+use Rattle.sl_law_meaning.specs.book.Trees.{BookTree}
+use Rattle.sl_law_meaning.specs.book.Typing.{is_typed}
+use Rattle.sl_law_meaning.specs.returns.Votes.{IsListVotes}
+use Rattle.sl_law_meaning.specs.returns.Election.{Election, IsElection, IsWin, AreNames, no_election}
+use Rattle.sl_law_meaning.specs.returns.Facts.{by_party}
+use Rattle.sl_law_meaning.specs.methods.Allocations.{IsDivisorAllocation}
+use Rattle.sl_law_meaning.specs.methods.Ties.{Decided, IsChoice}
+use Rattle.sl_law_meaning.specs.methods.Hamilton.{IsHamiltonAllocation}
+use Rattle.sl_law_meaning.specs.methods.Covering.{IsCovering}
+use Rattle.sl_law_meaning.specs.laws.Ladders.{divisor_ladders, hamilton_ladders, covering_ladders}
+use Rattle.sl_law_meaning.specs.laws.MethodLaws.{AllHaveVotes}
+use Rattle.sl_law_meaning.specs.meaning.Columns.{IsLeaf}
+use Rattle.sl_law_meaning.specs.meaning.Seating.{base_of, keep_table}
+use Rattle.sl_law_meaning.specs.meaning.Tables.{SeatTable}
+use Rattle.sl_law_meaning.specs.meaning.Means.{Known, Through, nothing_known, StagesMean, IsSeated, SameTable, Means}
+use Rattle.sl_law_meaning.proofs.Elections.{is_with_house, is_with_land, is_with_party}
+use Rattle.sl_law_meaning.proofs.meaning.MeaningProofs.{same_itself, at_most_one_outcome}
+use Rattle.sl_law_meaning.proofs.methods.DivisorProofs.{divisor_tops}
+use Rattle.sl_law_meaning.proofs.methods.HamiltonProofs.{hamilton_tops}
+use Rattle.sl_law_meaning.proofs.methods.LadderProofs.{batches}
+use Rattle.sl_law_meaning.proofs.methods.CoveringProofs.{covering_tops}
+use Rattle.sl_law_meaning.proofs.methods.SeatSums.{length_zeros}
 use Rattle.sl_law_fairness.specs.Winners.{is_single, total_seats}
 use Rattle.sl_law_statutes.specs.Parties.{seats_column}
 use Rattle.sl_law_examples.specs.VotesThatCost.{votes, winner, two_by_two, Gives}

@@ -3,9 +3,9 @@ use Rattle.std.proofs.Common.{◌≡◌, ℕ, zero, suc, ◌-◌, ◌*◌, ◌<�
 use Rattle.std.specs.Prelude.{nat_le, ◌&&◌, ◌||◌, not}
 use Rattle.std.proofs.lemmas.Bool.{cases_lt, cases_eq, and_parts, or_cases, leb-true, ltb-true, not-true, both_ways}
 use Rattle.std.proofs.lemmas.List.{get_or_past}
-use Rattle.sl_ratio.specs.Quotient.{Quotient}
-use Rattle.sl_stages.specs.methods.Steps.{is_below}
-use Rattle.sl_stages.specs.laws.Ladders.{Ladders, Has, AreFalling, IsOn, IsTop, IsSettled}
+use Rattle.sl_base_quotients.specs.Quotient.{Quotient}
+use Rattle.sl_law_meaning.specs.methods.Steps.{is_below}
+use Rattle.sl_law_meaning.specs.laws.Ladders.{Ladders, Has, AreFalling, IsOn, IsTop, IsSettled}
 
 -- the test passes at each number below n
 abbrev all_below : (ℕ → Bool) → ℕ → Bool

@@ -1,19 +1,19 @@
 -- Two parties, of which one falls below the threshold by a vote more for the other.
 use Rattle.std.proofs.Common.{◌≡◌, ℕ, List, [], ◌∷◌, arith, refl}
 use Rattle.std.specs.Prelude.{zip}
-use Rattle.sl_ratio.specs.declared.method.Divisor.TheVariants.{Webster}
-use Rattle.sl_stages.specs.declared.fact.Fact.TheVariants as facts
-use Rattle.sl_stages.specs.declared.table.Outcome.TheVariants as outcome
-use Rattle.sl_stages.specs.methods.Ties.{Decided}
-use Rattle.sl_stages.specs.returns.Election.{Election, IsElection, with_list}
-use Rattle.sl_stages.specs.returns.Facts.{lists_of}
-use Rattle.sl_stages.specs.meaning.Columns.{IsLeaf}
-use Rattle.sl_stages.specs.meaning.Results.{Column, plain}
-use Rattle.sl_stages.specs.meaning.Seating.{base_of, cover_table}
-use Rattle.sl_stages.specs.meaning.Splits.{Seats}
-use Rattle.sl_stages.specs.meaning.Means.{Known, Through, nothing_known, context_of, StagesMean, IsSeated}
-use Rattle.sl_stages.proofs.Elections.{is_with_list}
-use Rattle.sl_stages.proofs.meaning.PlainRuns.{to_means, then_plain}
+use Rattle.sl_base_quotients.specs.declared.method.Divisor.TheVariants.{Webster}
+use Rattle.sl_law_meaning.specs.declared.fact.Fact.TheVariants as facts
+use Rattle.sl_law_meaning.specs.declared.table.Outcome.TheVariants as outcome
+use Rattle.sl_law_meaning.specs.methods.Ties.{Decided}
+use Rattle.sl_law_meaning.specs.returns.Election.{Election, IsElection, with_list}
+use Rattle.sl_law_meaning.specs.returns.Facts.{lists_of}
+use Rattle.sl_law_meaning.specs.meaning.Columns.{IsLeaf}
+use Rattle.sl_law_meaning.specs.meaning.Results.{Column, plain}
+use Rattle.sl_law_meaning.specs.meaning.Seating.{base_of, cover_table}
+use Rattle.sl_law_meaning.specs.meaning.Splits.{Seats}
+use Rattle.sl_law_meaning.specs.meaning.Means.{Known, Through, nothing_known, context_of, StagesMean, IsSeated}
+use Rattle.sl_law_meaning.proofs.Elections.{is_with_list}
+use Rattle.sl_law_meaning.proofs.meaning.PlainRuns.{to_means, then_plain}
 use Rattle.sl_law_statutes.specs.Parties.{seats_column}
 use Rattle.sl_law_statutes.specs.Trees.{pool, law_of_2023}
 use Rattle.sl_law_examples.specs.VotesThatCost.{votes, Gives, Changes}

@@ -1,16 +1,16 @@
 -- What is left of negative vote weight by the statute of 2013, stage by stage.
 use Rattle.std.proofs.Common.{ℕ, zero, suc, ◌≤◌, [], ◌∷◌, arith, refl, sym, subst}
 use Rattle.std.specs.Prelude.{codes}
-use Rattle.sl_ratio.specs.declared.method.Divisor.TheVariants.{Webster}
-use Rattle.sl_stages.specs.declared.fact.Fact.TheVariants as facts
-use Rattle.sl_stages.specs.methods.LeastHouse.{Meets, Serves, GrownTo, IsGrowth}
-use Rattle.sl_stages.specs.methods.Ties.{Decided}
-use Rattle.sl_stages.specs.returns.Election.{Election, IsElection, with_list}
-use Rattle.sl_stages.specs.meaning.Results.{Column, plain}
-use Rattle.sl_stages.specs.meaning.Splits.{Seats}
-use Rattle.sl_stages.specs.meaning.Means.{Known, Through, nothing_known, context_of, StagesMean}
-use Rattle.sl_stages.proofs.Elections.{is_with_list, is_with_win}
-use Rattle.sl_stages.proofs.meaning.PlainRuns.{to_means, then_plain}
+use Rattle.sl_base_quotients.specs.declared.method.Divisor.TheVariants.{Webster}
+use Rattle.sl_law_meaning.specs.declared.fact.Fact.TheVariants as facts
+use Rattle.sl_law_meaning.specs.methods.LeastHouse.{Meets, Serves, GrownTo, IsGrowth}
+use Rattle.sl_law_meaning.specs.methods.Ties.{Decided}
+use Rattle.sl_law_meaning.specs.returns.Election.{Election, IsElection, with_list}
+use Rattle.sl_law_meaning.specs.meaning.Results.{Column, plain}
+use Rattle.sl_law_meaning.specs.meaning.Splits.{Seats}
+use Rattle.sl_law_meaning.specs.meaning.Means.{Known, Through, nothing_known, context_of, StagesMean}
+use Rattle.sl_law_meaning.proofs.Elections.{is_with_list, is_with_win}
+use Rattle.sl_law_meaning.proofs.meaning.PlainRuns.{to_means, then_plain}
 use Rattle.sl_law_statutes.specs.Trees.{law_of_2013, pool}
 use Rattle.sl_law_examples.specs.VotesThatCost.{votes, winner, Gives, with_growth, VoteCostsByGrowth}
 use Rattle.sl_law_examples.specs.Tables.{GivesLists}

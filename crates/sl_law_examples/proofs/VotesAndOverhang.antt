@@ -1,21 +1,21 @@
 -- Negative vote weight by the statutes up to 2008: the stages that they share, and the allocations of each.
 use Rattle.std.proofs.Common.{◌≡◌, ℕ, true, false, List, [], ◌∷◌, arith, refl}
 use Rattle.std.specs.Prelude.{codes}
-use Rattle.sl_ratio.specs.declared.method.Divisor.TheVariants.{Webster, Jefferson}
-use Rattle.sl_ratio.specs.declared.method.Method.{Method}
-use Rattle.sl_ratio.specs.declared.method.Method.TheVariants as by
-use Rattle.sl_stages.specs.declared.book.Majority.{Majority}
-use Rattle.sl_stages.specs.declared.book.Majority.TheVariants as majority
-use Rattle.sl_stages.specs.declared.fact.Fact.TheVariants as facts
-use Rattle.sl_stages.specs.book.Trees.{BookTree}
-use Rattle.sl_stages.specs.book.Typing.{is_typed}
-use Rattle.sl_stages.specs.methods.Ties.{Decided, IsChoice}
-use Rattle.sl_stages.specs.returns.Election.{IsElection, with_list}
-use Rattle.sl_stages.specs.meaning.Results.{Column, plain}
-use Rattle.sl_stages.specs.meaning.Splits.{Seats, award_of, IsAllocation}
-use Rattle.sl_stages.specs.meaning.Means.{nothing_known, context_of}
-use Rattle.sl_stages.proofs.Elections.{is_with_list, is_with_win}
-use Rattle.sl_stages.proofs.meaning.PlainRuns.{to_means, then_plain}
+use Rattle.sl_base_quotients.specs.declared.method.Divisor.TheVariants.{Webster, Jefferson}
+use Rattle.sl_base_quotients.specs.declared.method.Method.{Method}
+use Rattle.sl_base_quotients.specs.declared.method.Method.TheVariants as by
+use Rattle.sl_law_meaning.specs.declared.book.Majority.{Majority}
+use Rattle.sl_law_meaning.specs.declared.book.Majority.TheVariants as majority
+use Rattle.sl_law_meaning.specs.declared.fact.Fact.TheVariants as facts
+use Rattle.sl_law_meaning.specs.book.Trees.{BookTree}
+use Rattle.sl_law_meaning.specs.book.Typing.{is_typed}
+use Rattle.sl_law_meaning.specs.methods.Ties.{Decided, IsChoice}
+use Rattle.sl_law_meaning.specs.returns.Election.{IsElection, with_list}
+use Rattle.sl_law_meaning.specs.meaning.Results.{Column, plain}
+use Rattle.sl_law_meaning.specs.meaning.Splits.{Seats, award_of, IsAllocation}
+use Rattle.sl_law_meaning.specs.meaning.Means.{nothing_known, context_of}
+use Rattle.sl_law_meaning.proofs.Elections.{is_with_list, is_with_win}
+use Rattle.sl_law_meaning.proofs.meaning.PlainRuns.{to_means, then_plain}
 use Rattle.sl_law_statutes.specs.Trees.{number, common, pool, shares, keep}
 use Rattle.sl_law_examples.specs.VotesThatCost.{votes, winner, Gives, with_overhang, VoteCosts, VoteCostsByOverhang}
 use Rattle.sl_law_examples.proofs.SmallReturns.{are_votes, is_winner, is_two_by_two, gives, undisputed, undisputed_remainders}

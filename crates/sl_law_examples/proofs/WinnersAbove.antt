@@ -1,33 +1,33 @@
 -- A party with more winners than seats, by three statutes that keep them and by one that covers them.
 use Rattle.std.proofs.Common.{◌≡◌, ℕ, zero, suc, ◌*◌, ◌≤◌, inl, inr, true, false, List, [], ◌∷◌, count_by, arith, refl, ap}
 use Rattle.std.specs.Prelude.{Bool, codes, zip}
-use Rattle.sl_ratio.specs.declared.method.Divisor.{Divisor}
-use Rattle.sl_ratio.specs.declared.method.Divisor.TheVariants.{Adams, Dean, Hill, Webster, Jefferson}
-use Rattle.sl_ratio.specs.declared.method.Method.{Method}
-use Rattle.sl_ratio.specs.declared.method.Method.TheVariants as by
-use Rattle.sl_stages.specs.declared.book.Cond.{Cond}
-use Rattle.sl_stages.specs.declared.book.LastClause.{LastClause}
-use Rattle.sl_stages.specs.declared.book.Majority.{Majority}
-use Rattle.sl_stages.specs.declared.book.Majority.TheVariants as majority
-use Rattle.sl_stages.specs.declared.fact.Fact.{Fact}
-use Rattle.sl_stages.specs.declared.fact.Fact.TheVariants as facts
-use Rattle.sl_stages.specs.declared.table.Outcome.TheVariants as outcome
-use Rattle.sl_stages.specs.book.Trees.{BookTree}
-use Rattle.sl_stages.specs.book.Typing.{is_typed}
-use Rattle.sl_stages.specs.methods.Hamilton.{IsHamiltonAllocation}
-use Rattle.sl_stages.specs.methods.Ties.{Choice, Decided}
-use Rattle.sl_stages.specs.laws.MethodLaws.{AllHaveVotes}
-use Rattle.sl_stages.specs.returns.Election.{IsElection}
-use Rattle.sl_stages.specs.returns.Facts.{lists_of}
-use Rattle.sl_stages.specs.meaning.Columns.{IsLeaf}
-use Rattle.sl_stages.specs.meaning.Seating.{base_of, cover_table}
-use Rattle.sl_stages.specs.meaning.Results.{Column, plain}
-use Rattle.sl_stages.specs.meaning.Splits.{Seats, award_of}
-use Rattle.sl_stages.specs.meaning.Tables.{SeatTable}
-use Rattle.sl_stages.specs.meaning.Means.{Known, Through, nothing_known, context_of, StagesMean, IsSeated, Means}
-use Rattle.sl_stages.proofs.Elections.{is_with_list, is_with_win}
-use Rattle.sl_stages.proofs.meaning.MeaningProofs.{at_most_one_outcome}
-use Rattle.sl_stages.proofs.meaning.PlainRuns.{to_means, then_plain}
+use Rattle.sl_base_quotients.specs.declared.method.Divisor.{Divisor}
+use Rattle.sl_base_quotients.specs.declared.method.Divisor.TheVariants.{Adams, Dean, Hill, Webster, Jefferson}
+use Rattle.sl_base_quotients.specs.declared.method.Method.{Method}
+use Rattle.sl_base_quotients.specs.declared.method.Method.TheVariants as by
+use Rattle.sl_law_meaning.specs.declared.book.Cond.{Cond}
+use Rattle.sl_law_meaning.specs.declared.book.LastClause.{LastClause}
+use Rattle.sl_law_meaning.specs.declared.book.Majority.{Majority}
+use Rattle.sl_law_meaning.specs.declared.book.Majority.TheVariants as majority
+use Rattle.sl_law_meaning.specs.declared.fact.Fact.{Fact}
+use Rattle.sl_law_meaning.specs.declared.fact.Fact.TheVariants as facts
+use Rattle.sl_law_meaning.specs.declared.table.Outcome.TheVariants as outcome
+use Rattle.sl_law_meaning.specs.book.Trees.{BookTree}
+use Rattle.sl_law_meaning.specs.book.Typing.{is_typed}
+use Rattle.sl_law_meaning.specs.methods.Hamilton.{IsHamiltonAllocation}
+use Rattle.sl_law_meaning.specs.methods.Ties.{Choice, Decided}
+use Rattle.sl_law_meaning.specs.laws.MethodLaws.{AllHaveVotes}
+use Rattle.sl_law_meaning.specs.returns.Election.{IsElection}
+use Rattle.sl_law_meaning.specs.returns.Facts.{lists_of}
+use Rattle.sl_law_meaning.specs.meaning.Columns.{IsLeaf}
+use Rattle.sl_law_meaning.specs.meaning.Seating.{base_of, cover_table}
+use Rattle.sl_law_meaning.specs.meaning.Results.{Column, plain}
+use Rattle.sl_law_meaning.specs.meaning.Splits.{Seats, award_of}
+use Rattle.sl_law_meaning.specs.meaning.Tables.{SeatTable}
+use Rattle.sl_law_meaning.specs.meaning.Means.{Known, Through, nothing_known, context_of, StagesMean, IsSeated, Means}
+use Rattle.sl_law_meaning.proofs.Elections.{is_with_list, is_with_win}
+use Rattle.sl_law_meaning.proofs.meaning.MeaningProofs.{at_most_one_outcome}
+use Rattle.sl_law_meaning.proofs.meaning.PlainRuns.{to_means, then_plain}
 use Rattle.sl_law_statutes.specs.Trees.{number, common, pool, shares, keep, law_of_2023}
 use Rattle.sl_law_statutes.specs.Unseated.{is_unseated}
 use Rattle.sl_law_examples.specs.Failures.{Free}

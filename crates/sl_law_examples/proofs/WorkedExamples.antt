@@ -1,17 +1,17 @@
 -- The worked scopes, by tests that compute.
 use Rattle.std.proofs.Common.{◌≡◌, ℕ, zero, suc, ◌+◌, ◌<◌, true, false, List, [], ◌∷◌, length, sum, inl, inr, arith, refl}
-use Rattle.sl_ratio.specs.declared.method.Divisor.TheVariants.{Adams, Webster, Jefferson}
-use Rattle.sl_stages.specs.methods.LeastHouse.{Meets}
-use Rattle.sl_stages.specs.methods.Ties.{Distinct, Lists, NamesAll, IsChoice, Decided, Tied}
-use Rattle.sl_stages.specs.laws.Ladders.{Ladders, RaisesEach, AreFalling, IsTop, IsSettled, IsPeer, divisor_ladders, hamilton_ladders, covering_ladders}
-use Rattle.sl_stages.specs.laws.MethodLaws.{AllHaveVotes}
+use Rattle.sl_base_quotients.specs.declared.method.Divisor.TheVariants.{Adams, Webster, Jefferson}
+use Rattle.sl_law_meaning.specs.methods.LeastHouse.{Meets}
+use Rattle.sl_law_meaning.specs.methods.Ties.{Distinct, Lists, NamesAll, IsChoice, Decided, Tied}
+use Rattle.sl_law_meaning.specs.laws.Ladders.{Ladders, RaisesEach, AreFalling, IsTop, IsSettled, IsPeer, divisor_ladders, hamilton_ladders, covering_ladders}
+use Rattle.sl_law_meaning.specs.laws.MethodLaws.{AllHaveVotes}
 use Rattle.sl_law_examples.specs.Examples.{WebsterThirtyTen, FirstSeats, four_lists, HamiltonMajority, ThreeWinners}
-use Rattle.sl_stages.proofs.methods.RaisedSeats.{Contains-head, Contains-cases, Contains-none}
-use Rattle.sl_stages.proofs.methods.LadderProofs.{batches, raise_each}
-use Rattle.sl_stages.proofs.methods.DivisorProofs.{divisor_tops}
-use Rattle.sl_stages.proofs.methods.HamiltonProofs.{hamilton_tops}
-use Rattle.sl_stages.proofs.methods.CoveringProofs.{covering_tops}
-use Rattle.sl_stages.proofs.methods.HouseProofs.{growing}
+use Rattle.sl_law_meaning.proofs.methods.RaisedSeats.{Contains-head, Contains-cases, Contains-none}
+use Rattle.sl_law_meaning.proofs.methods.LadderProofs.{batches, raise_each}
+use Rattle.sl_law_meaning.proofs.methods.DivisorProofs.{divisor_tops}
+use Rattle.sl_law_meaning.proofs.methods.HamiltonProofs.{hamilton_tops}
+use Rattle.sl_law_meaning.proofs.methods.CoveringProofs.{covering_tops}
+use Rattle.sl_law_meaning.proofs.methods.HouseProofs.{growing}
 use Rattle.sl_law_examples.proofs.SettledTests.{settled_test, settled_by_test, peers_test, peers_by_test, names_by_test, lacks_by_test}
 
 module _ (l : Ladders) (law : AreFalling l) (s : List ℕ) (e : length s ≡ length l.base) (settled : settled_test l s ≡ true) where

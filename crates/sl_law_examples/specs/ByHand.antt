@@ -1,10 +1,10 @@
 -- Published results, checked as a reader does it with a pocket calculator (docs/by-hand.md), line by line. Each example is the contract of a
 -- function of `by_hand`.
 use Rattle.std.specs.Prelude.{◌≡◌, ℕ, ◌+◌, ◌-◌, ◌*◌, ◌<◌, ◌≤◌, true, List, [], ◌∷◌}
-use Rattle.sl_ratio.specs.declared.method.Divisor.TheVariants.{Webster}
-use Rattle.sl_stages.specs.methods.Covering.{IsCovering}
-use Rattle.sl_stages.specs.methods.Hamilton.{IsHamiltonAllocation}
-use Rattle.sl_stages.specs.methods.LeastHouse.{IsGrowth, GrownTo}
+use Rattle.sl_base_quotients.specs.declared.method.Divisor.TheVariants.{Webster}
+use Rattle.sl_law_meaning.specs.methods.Covering.{IsCovering}
+use Rattle.sl_law_meaning.specs.methods.Hamilton.{IsHamiltonAllocation}
+use Rattle.sl_law_meaning.specs.methods.LeastHouse.{IsGrowth, GrownTo}
 use Rattle.sl_law_fairness.specs.ClosedHouse.{seats_by}
 use Rattle.sl_law_examples.specs.Failures.{IsOnly, Free}
 

@@ -1,13 +1,13 @@
 -- Worked scopes, small enough to follow by hand (docs/methods.md).
 use Rattle.std.specs.Prelude.{◌≡◌, ℕ, true, false, List, [], ◌∷◌, slice_index}
-use Rattle.sl_ratio.specs.declared.method.Divisor.TheVariants.{Adams, Webster, Jefferson}
-use Rattle.sl_ratio.specs.Quotient.{quotient}
-use Rattle.sl_stages.specs.methods.Allocations.{IsDivisorAllocation}
-use Rattle.sl_stages.specs.methods.Hamilton.{IsHamiltonAllocation}
-use Rattle.sl_stages.specs.methods.Covering.{IsCovering}
-use Rattle.sl_stages.specs.methods.Ties.{IsChoice, Decided, Tied}
-use Rattle.sl_stages.specs.methods.LeastHouse.{IsGrowth, GrownTo}
-use Rattle.sl_stages.specs.methods.Steps.{step_of}
+use Rattle.sl_base_quotients.specs.declared.method.Divisor.TheVariants.{Adams, Webster, Jefferson}
+use Rattle.sl_base_quotients.specs.Quotient.{quotient}
+use Rattle.sl_law_meaning.specs.methods.Allocations.{IsDivisorAllocation}
+use Rattle.sl_law_meaning.specs.methods.Hamilton.{IsHamiltonAllocation}
+use Rattle.sl_law_meaning.specs.methods.Covering.{IsCovering}
+use Rattle.sl_law_meaning.specs.methods.Ties.{IsChoice, Decided, Tied}
+use Rattle.sl_law_meaning.specs.methods.LeastHouse.{IsGrowth, GrownTo}
+use Rattle.sl_law_meaning.specs.methods.Steps.{step_of}
 
 -- webster, weights 30 and 10: in a house of 2 both are tied for one seat, since 30 / (3/2) is 10 / (1/2)
 abbrev pub two_seats : List ℕ → Type 0

@@ -1,11 +1,11 @@
 -- What fails, in small numbers. Each example is the contract of a function of `hamilton`, `quota`, `premises` or `joins`.
 use Rattle.std.specs.Prelude.{◌≡◌, ℕ, ◌*◌, ◌≤◌, Bool, false, List, [], ◌∷◌, sum, slice_index}
-use Rattle.sl_ratio.specs.declared.method.Divisor.{Divisor}
-use Rattle.sl_ratio.specs.declared.method.Divisor.TheVariants.{Adams, Dean, Hill, Webster, Jefferson}
-use Rattle.sl_stages.specs.methods.Field.{InField, no_minima}
-use Rattle.sl_stages.specs.methods.Allocations.{IsDivisorAllocation}
-use Rattle.sl_stages.specs.methods.Hamilton.{whole, IsHamiltonAllocation}
-use Rattle.sl_stages.specs.methods.LeastHouse.{IsGrowth, GrownTo}
+use Rattle.sl_base_quotients.specs.declared.method.Divisor.{Divisor}
+use Rattle.sl_base_quotients.specs.declared.method.Divisor.TheVariants.{Adams, Dean, Hill, Webster, Jefferson}
+use Rattle.sl_law_meaning.specs.methods.Field.{InField, no_minima}
+use Rattle.sl_law_meaning.specs.methods.Allocations.{IsDivisorAllocation}
+use Rattle.sl_law_meaning.specs.methods.Hamilton.{whole, IsHamiltonAllocation}
+use Rattle.sl_law_meaning.specs.methods.LeastHouse.{IsGrowth, GrownTo}
 use Rattle.sl_law_fairness.specs.Parts.{part, IsPutIn}
 use Rattle.sl_law_fairness.specs.Quota.{raised_whole}
 use Rattle.sl_law_fairness.specs.Joining.{Joins}

@@ -1,8 +1,8 @@
 -- What fails where a house grows, and the bound on growth of the house of 2013. Each example is the contract of a function of `growth`.
 use Rattle.std.specs.Prelude.{◌≡◌, ℕ, ◌+◌, ◌-◌, ◌*◌, ◌<◌, ◌≤◌, [], ◌∷◌, sum, slice_index}
-use Rattle.sl_ratio.specs.declared.method.Divisor.{Divisor}
-use Rattle.sl_ratio.specs.declared.method.Divisor.TheVariants.{Webster}
-use Rattle.sl_stages.specs.methods.LeastHouse.{IsGrowth, GrownTo, IsGrownAllocation}
+use Rattle.sl_base_quotients.specs.declared.method.Divisor.{Divisor}
+use Rattle.sl_base_quotients.specs.declared.method.Divisor.TheVariants.{Webster}
+use Rattle.sl_law_meaning.specs.methods.LeastHouse.{IsGrowth, GrownTo, IsGrownAllocation}
 use Rattle.sl_law_fairness.specs.ClosedHouse.{needed_by, HasMinimum}
 use Rattle.sl_law_fairness.specs.Growths.{MeetsEach}
 use Rattle.sl_law_fairness.specs.NearQuota.{in_field}

@@ -1,8 +1,8 @@
 -- What fails by Dean's and Hill's methods too, and where two entries join. Each example is the contract of a function of `quota`, `premises` or `joins`.
 use Rattle.std.specs.Prelude.{◌≡◌, [], ◌∷◌}
-use Rattle.sl_ratio.specs.declared.method.Divisor.{Divisor}
-use Rattle.sl_ratio.specs.declared.method.Divisor.TheVariants.{Dean, Hill, Jefferson}
-use Rattle.sl_stages.specs.methods.Hamilton.{whole}
+use Rattle.sl_base_quotients.specs.declared.method.Divisor.{Divisor}
+use Rattle.sl_base_quotients.specs.declared.method.Divisor.TheVariants.{Dean, Hill, Jefferson}
+use Rattle.sl_law_meaning.specs.methods.Hamilton.{whole}
 use Rattle.sl_law_fairness.specs.Quota.{raised_whole}
 use Rattle.sl_law_fairness.specs.Joining.{Joins}
 use Rattle.sl_law_examples.specs.Failures.{IsOnly, Free, Hamilton, WithInfinite}

@@ -1,26 +1,26 @@
 -- An election under the law of 1956, small enough to follow by hand (docs/meaning.md, section 11).
 use Rattle.std.specs.Prelude.{ℕ, false, [], ◌∷◌, Some, None, replicate, codes}
-use Rattle.sl_ratio.specs.declared.method.Divisor.TheVariants.{Jefferson}
-use Rattle.sl_ratio.specs.declared.method.Method.TheVariants as by
-use Rattle.sl_stages.specs.declared.fact.Fact.TheVariants as facts
-use Rattle.sl_stages.specs.declared.book.Pairing.TheVariants as pairings
-use Rattle.sl_stages.specs.declared.book.Axis.TheVariants as axis
-use Rattle.sl_stages.specs.declared.book.Base.TheVariants as base
-use Rattle.sl_stages.specs.declared.book.Cond.TheVariants as condition
-use Rattle.sl_stages.specs.declared.book.Majority.TheVariants as majority
-use Rattle.sl_stages.specs.declared.book.Seating.TheVariants as seating
-use Rattle.sl_stages.specs.declared.fault.Scope.{Scope}
-use Rattle.sl_stages.specs.declared.fault.Scope.TheVariants as scope
-use Rattle.sl_stages.specs.declared.fault.Item.{Item}
-use Rattle.sl_stages.specs.declared.fault.Item.TheVariants as item
-use Rattle.sl_stages.specs.declared.table.Placed.TheVariants as placed
-use Rattle.sl_stages.specs.declared.table.SeatStep.{SeatStep}
-use Rattle.sl_stages.specs.declared.table.Weight.{Weight}
-use Rattle.sl_stages.specs.declared.table.Outcome.TheVariants as outcome
-use Rattle.sl_stages.specs.book.Trees.{ExprTree, fact, name, sum, pair, split, without, BookTree}
-use Rattle.sl_stages.specs.meaning.Tables.{SeatTable}
-use Rattle.sl_stages.specs.returns.Election.{Election}
-use Rattle.sl_stages.specs.meaning.Means.{Means}
+use Rattle.sl_base_quotients.specs.declared.method.Divisor.TheVariants.{Jefferson}
+use Rattle.sl_base_quotients.specs.declared.method.Method.TheVariants as by
+use Rattle.sl_law_meaning.specs.declared.fact.Fact.TheVariants as facts
+use Rattle.sl_law_meaning.specs.declared.book.Pairing.TheVariants as pairings
+use Rattle.sl_law_meaning.specs.declared.book.Axis.TheVariants as axis
+use Rattle.sl_law_meaning.specs.declared.book.Base.TheVariants as base
+use Rattle.sl_law_meaning.specs.declared.book.Cond.TheVariants as condition
+use Rattle.sl_law_meaning.specs.declared.book.Majority.TheVariants as majority
+use Rattle.sl_law_meaning.specs.declared.book.Seating.TheVariants as seating
+use Rattle.sl_law_meaning.specs.declared.fault.Scope.{Scope}
+use Rattle.sl_law_meaning.specs.declared.fault.Scope.TheVariants as scope
+use Rattle.sl_law_meaning.specs.declared.fault.Item.{Item}
+use Rattle.sl_law_meaning.specs.declared.fault.Item.TheVariants as item
+use Rattle.sl_law_meaning.specs.declared.table.Placed.TheVariants as placed
+use Rattle.sl_law_meaning.specs.declared.table.SeatStep.{SeatStep}
+use Rattle.sl_law_meaning.specs.declared.table.Weight.{Weight}
+use Rattle.sl_law_meaning.specs.declared.table.Outcome.TheVariants as outcome
+use Rattle.sl_law_meaning.specs.book.Trees.{ExprTree, fact, name, sum, pair, split, without, BookTree}
+use Rattle.sl_law_meaning.specs.meaning.Tables.{SeatTable}
+use Rattle.sl_law_meaning.specs.returns.Election.{Election}
+use Rattle.sl_law_meaning.specs.meaning.Means.{Means}
 use Rattle.sl_law_examples.specs.SmallElections.{number, votes, over}
 
 -- ---- the law: parties with 5 of 100 valid votes, three winners or a minority's flag; the house less the outside winners goes to the

@@ -2,11 +2,11 @@
 -- of a function of `measures`, `hamilton`, `quota`, `premises` or `joins`.
 use Rattle.std.specs.Prelude.{◌≡◌, ℕ, ◌*◌, ◌<◌, ◌≤◌, true, Bool, List, [], ◌∷◌, IsPermutation, slice_index}
 use Rattle.std.specs.List.{range_with_len}
-use Rattle.sl_ratio.specs.declared.method.Divisor.{Divisor}
-use Rattle.sl_ratio.specs.declared.method.Divisor.TheVariants.{Adams, Dean, Webster, Jefferson}
-use Rattle.sl_stages.specs.methods.Field.{InField}
-use Rattle.sl_stages.specs.methods.Hamilton.{IsHamiltonAllocation}
-use Rattle.sl_stages.specs.methods.Ties.{Distinct}
+use Rattle.sl_base_quotients.specs.declared.method.Divisor.{Divisor}
+use Rattle.sl_base_quotients.specs.declared.method.Divisor.TheVariants.{Adams, Dean, Webster, Jefferson}
+use Rattle.sl_law_meaning.specs.methods.Field.{InField}
+use Rattle.sl_law_meaning.specs.methods.Hamilton.{IsHamiltonAllocation}
+use Rattle.sl_law_meaning.specs.methods.Ties.{Distinct}
 use Rattle.sl_law_fairness.specs.ByDivisor.{IsByDivisor, IsRoundedUp, IsHarmonic, IsGeometric}
 use Rattle.sl_law_fairness.specs.Hamilton.{deviation}
 use Rattle.sl_law_fairness.specs.Joining.{Joins}

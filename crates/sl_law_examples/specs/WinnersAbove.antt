@@ -1,13 +1,13 @@
 -- One party with more winners than its votes give it seats: by the statutes up to 2008 a table that no method gives, and by that of 2023
 -- winners without a seat, whatever the offsets in their texts. Each example is the contract of a function of `votes`.
 use Rattle.std.specs.Prelude.{◌≡◌, ℕ, Bool, [], ◌∷◌, codes, count_by}
-use Rattle.sl_ratio.specs.declared.method.Divisor.{Divisor}
-use Rattle.sl_ratio.specs.declared.method.Divisor.TheVariants.{Webster}
-use Rattle.sl_stages.specs.declared.table.Outcome.TheVariants as outcome
-use Rattle.sl_stages.specs.methods.Hamilton.{IsHamiltonAllocation}
-use Rattle.sl_stages.specs.returns.Election.{Election, with_list, with_win}
-use Rattle.sl_stages.specs.meaning.Tables.{SeatTable}
-use Rattle.sl_stages.specs.meaning.Means.{Means}
+use Rattle.sl_base_quotients.specs.declared.method.Divisor.{Divisor}
+use Rattle.sl_base_quotients.specs.declared.method.Divisor.TheVariants.{Webster}
+use Rattle.sl_law_meaning.specs.declared.table.Outcome.TheVariants as outcome
+use Rattle.sl_law_meaning.specs.methods.Hamilton.{IsHamiltonAllocation}
+use Rattle.sl_law_meaning.specs.returns.Election.{Election, with_list, with_win}
+use Rattle.sl_law_meaning.specs.meaning.Tables.{SeatTable}
+use Rattle.sl_law_meaning.specs.meaning.Means.{Means}
 use Rattle.sl_law_statutes.specs.Trees.{law_of_1956, law_of_1985, law_of_2008, law_of_2023}
 use Rattle.sl_law_statutes.specs.Unseated.{is_unseated}
 use Rattle.sl_law_examples.specs.Failures.{IsOnly, Free}

@@ -5,28 +5,28 @@ use Rattle.std.specs.List.{list_any}
 use Rattle.std.proofs.lemmas.Bool.{cases_Bool, cases_lt, and_from, or_parts, le-leb, lt-ltb, both_ways}
 use Rattle.std.proofs.lemmas.List.{length-map}
 use Rattle.std.proofs.lemmas.Option.{none-some, same_Some, slice_get_read}
-use Rattle.sl_ratio.specs.declared.method.Divisor.{Divisor}
-use Rattle.sl_ratio.specs.declared.method.Method.{Method}
-use Rattle.sl_ratio.specs.declared.method.Method.TheVariants as by
-use Rattle.sl_stages.specs.declared.book.Majority.{Majority}
-use Rattle.sl_stages.specs.declared.book.Majority.TheVariants as majority
-use Rattle.sl_stages.specs.declared.book.Number.{Number}
+use Rattle.sl_base_quotients.specs.declared.method.Divisor.{Divisor}
+use Rattle.sl_base_quotients.specs.declared.method.Method.{Method}
+use Rattle.sl_base_quotients.specs.declared.method.Method.TheVariants as by
+use Rattle.sl_law_meaning.specs.declared.book.Majority.{Majority}
+use Rattle.sl_law_meaning.specs.declared.book.Majority.TheVariants as majority
+use Rattle.sl_law_meaning.specs.declared.book.Number.{Number}
 use Rattle.sl_base_terms.specs.declared.shape.Shape.{Shape}
 use Rattle.sl_base_terms.specs.declared.shape.Shape.TheVariants as shape
-use Rattle.sl_stages.specs.declared.fault.FaultKind.{FaultKind}
-use Rattle.sl_stages.specs.declared.fault.Item.{Item}
-use Rattle.sl_stages.specs.book.Trees.{ExprTree, split, grow, MinimaTree, without, atleast, BookTree}
-use Rattle.sl_stages.specs.book.Typing.{can_split}
-use Rattle.sl_stages.specs.returns.Election.{Election}
-use Rattle.sl_stages.specs.methods.LeastHouse.{Growth, GrownTo, EmptyField, AboveCap, IsGrowth, IsGrownAllocation}
-use Rattle.sl_stages.specs.methods.Ties.{Choice, Decided, Tied, IsChoice}
-use Rattle.sl_stages.specs.meaning.Lots.{stage_lot}
-use Rattle.sl_stages.specs.meaning.Records.{Records}
-use Rattle.sl_stages.specs.meaning.Results.{ExprResult, Column, Then, Stand, amount_of}
-use Rattle.sl_stages.specs.meaning.Scopes.{Group, place, cells, scopes}
-use Rattle.sl_stages.specs.meaning.Splits.{Seats, Refused, is_deprived, is_refused, award_of, IsChosen, IsAllocation, refusal, IsSplitAward, IsHouseAward, IsGrowthAward}
-use Rattle.sl_stages.specs.meaning.Expressions.{minima_at, IsSplitIn, split_records, IsSplit, IsGrowthIn, growth_records, IsGrown, Context, stand, shape_in, ExprMeans}
-use Rattle.sl_stages.proofs.meaning.TypedMeaning.{then_column}
+use Rattle.sl_law_meaning.specs.declared.fault.FaultKind.{FaultKind}
+use Rattle.sl_law_meaning.specs.declared.fault.Item.{Item}
+use Rattle.sl_law_meaning.specs.book.Trees.{ExprTree, split, grow, MinimaTree, without, atleast, BookTree}
+use Rattle.sl_law_meaning.specs.book.Typing.{can_split}
+use Rattle.sl_law_meaning.specs.returns.Election.{Election}
+use Rattle.sl_law_meaning.specs.methods.LeastHouse.{Growth, GrownTo, EmptyField, AboveCap, IsGrowth, IsGrownAllocation}
+use Rattle.sl_law_meaning.specs.methods.Ties.{Choice, Decided, Tied, IsChoice}
+use Rattle.sl_law_meaning.specs.meaning.Lots.{stage_lot}
+use Rattle.sl_law_meaning.specs.meaning.Records.{Records}
+use Rattle.sl_law_meaning.specs.meaning.Results.{ExprResult, Column, Then, Stand, amount_of}
+use Rattle.sl_law_meaning.specs.meaning.Scopes.{Group, place, cells, scopes}
+use Rattle.sl_law_meaning.specs.meaning.Splits.{Seats, Refused, is_deprived, is_refused, award_of, IsChosen, IsAllocation, refusal, IsSplitAward, IsHouseAward, IsGrowthAward}
+use Rattle.sl_law_meaning.specs.meaning.Expressions.{minima_at, IsSplitIn, split_records, IsSplit, IsGrowthIn, growth_records, IsGrown, Context, stand, shape_in, ExprMeans}
+use Rattle.sl_law_meaning.proofs.meaning.TypedMeaning.{then_column}
 use Rattle.sl_law_fairness.specs.Allocated.{SplitsAllocate, SplitsMeetTheMinima, GrowthsAllocate}
 use Rattle.sl_law_fairness.specs.Amounts.{ComesToColumn, sum_in, SplitsGiveTheAmount, GrowthsGiveTheAmount, MajorityKept, GrownMajorityKept}
 use Rattle.sl_law_fairness.proofs.Scopes.{shared_award}

@@ -3,32 +3,32 @@ use Rattle.std.proofs.Common.{◌≡◌, ℕ, true, List, [], ◌∷◌, None, l
 use Rattle.std.specs.Prelude.{sum_by, sum as sum_of}
 use Rattle.std.proofs.lemmas.Bool.{and_parts, cond-true}
 use Rattle.std.proofs.lemmas.Option.{same_Some}
-use Rattle.sl_stages.specs.declared.book.Base.{Base}
-use Rattle.sl_stages.specs.declared.book.Base.TheVariants as base
-use Rattle.sl_stages.specs.declared.book.LastClause.{LastClause}
+use Rattle.sl_law_meaning.specs.declared.book.Base.{Base}
+use Rattle.sl_law_meaning.specs.declared.book.Base.TheVariants as base
+use Rattle.sl_law_meaning.specs.declared.book.LastClause.{LastClause}
 use Rattle.sl_base_terms.specs.declared.shape.Shape.TheVariants as shape
-use Rattle.sl_stages.specs.declared.book.Unit.TheVariants as unit
-use Rattle.sl_stages.specs.declared.table.Outcome.{Outcome}
-use Rattle.sl_stages.specs.declared.table.Outcome.TheVariants as outcome
-use Rattle.sl_stages.specs.book.Trees.{name, StageTree, BookTree}
+use Rattle.sl_law_meaning.specs.declared.book.Unit.TheVariants as unit
+use Rattle.sl_law_meaning.specs.declared.table.Outcome.{Outcome}
+use Rattle.sl_law_meaning.specs.declared.table.Outcome.TheVariants as outcome
+use Rattle.sl_law_meaning.specs.book.Trees.{name, StageTree, BookTree}
 use Rattle.sl_base_terms.specs.Tests.{first_failing}
-use Rattle.sl_stages.specs.book.Typing.{Column as TypedColumn, type_of, expr_tests, base_tests, columns_of, tests_of, is_typed, same_unit}
+use Rattle.sl_law_meaning.specs.book.Typing.{Column as TypedColumn, type_of, expr_tests, base_tests, columns_of, tests_of, is_typed, same_unit}
 use Rattle.sl_base_terms.specs.Shapes.{same_shape}
-use Rattle.sl_stages.specs.returns.Election.{Election, IsElection}
-use Rattle.sl_stages.specs.returns.Facts.{lists_of}
-use Rattle.sl_stages.specs.meaning.Columns.{NamedColumn, IsLeaf}
-use Rattle.sl_stages.specs.meaning.Records.{Records, no_records}
-use Rattle.sl_stages.specs.meaning.Results.{ExprResult, Column, Fault}
-use Rattle.sl_stages.specs.meaning.Expressions.{Context, ExprMeans}
-use Rattle.sl_stages.specs.meaning.Seating.{base_of}
-use Rattle.sl_stages.specs.meaning.Tables.{SeatTable}
-use Rattle.sl_stages.specs.meaning.Means.{Known, Through, Stopped, StagesResult, nothing_known, with_stage, GoesOn, StagesMean, IsSeated, EndsAs, SameOutcome, Means}
-use Rattle.sl_stages.specs.laws.ColumnLaws.{size_of, FitsType}
+use Rattle.sl_law_meaning.specs.returns.Election.{Election, IsElection}
+use Rattle.sl_law_meaning.specs.returns.Facts.{lists_of}
+use Rattle.sl_law_meaning.specs.meaning.Columns.{NamedColumn, IsLeaf}
+use Rattle.sl_law_meaning.specs.meaning.Records.{Records, no_records}
+use Rattle.sl_law_meaning.specs.meaning.Results.{ExprResult, Column, Fault}
+use Rattle.sl_law_meaning.specs.meaning.Expressions.{Context, ExprMeans}
+use Rattle.sl_law_meaning.specs.meaning.Seating.{base_of}
+use Rattle.sl_law_meaning.specs.meaning.Tables.{SeatTable}
+use Rattle.sl_law_meaning.specs.meaning.Means.{Known, Through, Stopped, StagesResult, nothing_known, with_stage, GoesOn, StagesMean, IsSeated, EndsAs, SameOutcome, Means}
+use Rattle.sl_law_meaning.specs.laws.ColumnLaws.{size_of, FitsType}
 use Rattle.sl_base_terms.proofs.Shapes.{same_shape_is}
 use Rattle.sl_base_terms.proofs.Tests.{no_fault, head_holds}
-use Rattle.sl_stages.proofs.meaning.ExactlyOne.{same_ones}
-use Rattle.sl_stages.proofs.meaning.OneOutcome.{typed_parts, one_stages_result}
-use Rattle.sl_stages.proofs.meaning.TypedMeaning.{typed_expressions, typed_stages}
+use Rattle.sl_law_meaning.proofs.meaning.ExactlyOne.{same_ones}
+use Rattle.sl_law_meaning.proofs.meaning.OneOutcome.{typed_parts, one_stages_result}
+use Rattle.sl_law_meaning.proofs.meaning.TypedMeaning.{typed_expressions, typed_stages}
 use Rattle.sl_law_fairness.specs.Winners.{IsBase, base_seats}
 use Rattle.sl_law_fairness.proofs.ListColumns.{sum_of_lists}
 

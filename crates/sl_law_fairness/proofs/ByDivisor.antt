@@ -3,15 +3,15 @@ use Rattle.std.proofs.Common.{◌≡◌, ℕ, zero, suc, ◌+◌, ◌-◌, ◌*�
 use Rattle.std.proofs.Math.Nat.{mul-le-mul_right}
 use Rattle.std.proofs.lemmas.Nat.{mul-lt}
 use Rattle.std.proofs.lemmas.Bool.{cases_lt}
-use Rattle.sl_ratio.specs.declared.method.Divisor.{Divisor}
-use Rattle.sl_ratio.specs.declared.method.Divisor.TheVariants.{Adams, Webster, Jefferson}
-use Rattle.sl_ratio.specs.Quotient.{Quotient, AtMost, quotient}
-use Rattle.sl_ratio.specs.inner.QuotientLaws.{quotient_positive}
-use Rattle.sl_ratio.proofs.Order.{AtMost-trans, decide_AtMost, not-AtMost}
-use Rattle.sl_stages.specs.methods.Field.{InField}
-use Rattle.sl_stages.specs.methods.Allocations.{IsDivisorAllocation}
-use Rattle.sl_stages.proofs.methods.DivisorProofs.{in_range}
-use Rattle.sl_stages.proofs.methods.HamiltonProofs.{whole_low, whole_high}
+use Rattle.sl_base_quotients.specs.declared.method.Divisor.{Divisor}
+use Rattle.sl_base_quotients.specs.declared.method.Divisor.TheVariants.{Adams, Webster, Jefferson}
+use Rattle.sl_base_quotients.specs.Quotient.{Quotient, AtMost, quotient}
+use Rattle.sl_base_quotients.specs.inner.QuotientLaws.{quotient_positive}
+use Rattle.sl_base_quotients.proofs.Order.{AtMost-trans, decide_AtMost, not-AtMost}
+use Rattle.sl_law_meaning.specs.methods.Field.{InField}
+use Rattle.sl_law_meaning.specs.methods.Allocations.{IsDivisorAllocation}
+use Rattle.sl_law_meaning.proofs.methods.DivisorProofs.{in_range}
+use Rattle.sl_law_meaning.proofs.methods.HamiltonProofs.{whole_low, whole_high}
 use Rattle.sl_law_fairness.specs.ByDivisor.{IsNearest, IsRoundedDown, IsRoundedUp, IsByDivisor, WebsterByDivisor, JeffersonByDivisor, AdamsByDivisor}
 
 abbrev pub next : Divisor → List ℕ → List ℕ → ℕ → Quotient

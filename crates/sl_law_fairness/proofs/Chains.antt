@@ -1,16 +1,16 @@
 -- Steps of a chain of quotients: how they fall with the seats held and rise with the votes, and who has one.
 use Rattle.std.proofs.Common.{◌≡◌, ℕ, zero, suc, ◌*◌, ◌<◌, ◌≤◌, List, length, get_or, inl, inr, arith, refl, subst}
 use Rattle.std.proofs.lemmas.Bool.{cases_lt, cases_eq}
-use Rattle.sl_ratio.specs.declared.method.Divisor.{Divisor}
-use Rattle.sl_ratio.specs.declared.method.Divisor.TheVariants.{Adams, Dean, Hill, Webster, Jefferson}
-use Rattle.sl_ratio.specs.Quotient.{AtMost, Below, quotient}
-use Rattle.sl_ratio.specs.inner.QuotientLaws.{quotient_rises}
-use Rattle.sl_stages.specs.methods.Field.{InField, no_minima}
-use Rattle.sl_stages.specs.methods.Allocations.{IsDivisorAllocation}
-use Rattle.sl_stages.specs.laws.Ladders.{divisor_ladders}
-use Rattle.sl_stages.proofs.methods.SeatSums.{none_needed, length_zeros}
-use Rattle.sl_stages.proofs.methods.OneBatch.{falls_to, falls_to_weak}
-use Rattle.sl_stages.proofs.methods.DivisorProofs.{falling, has_of}
+use Rattle.sl_base_quotients.specs.declared.method.Divisor.{Divisor}
+use Rattle.sl_base_quotients.specs.declared.method.Divisor.TheVariants.{Adams, Dean, Hill, Webster, Jefferson}
+use Rattle.sl_base_quotients.specs.Quotient.{AtMost, Below, quotient}
+use Rattle.sl_base_quotients.specs.inner.QuotientLaws.{quotient_rises}
+use Rattle.sl_law_meaning.specs.methods.Field.{InField, no_minima}
+use Rattle.sl_law_meaning.specs.methods.Allocations.{IsDivisorAllocation}
+use Rattle.sl_law_meaning.specs.laws.Ladders.{divisor_ladders}
+use Rattle.sl_law_meaning.proofs.methods.SeatSums.{none_needed, length_zeros}
+use Rattle.sl_law_meaning.proofs.methods.OneBatch.{falls_to, falls_to_weak}
+use Rattle.sl_law_meaning.proofs.methods.DivisorProofs.{falling, has_of}
 
 -- more seats held, no greater quotient
 pub falls_weak : (method : Divisor) (v : List ℕ) (i a b : ℕ) → InField v i → a ≤ b →

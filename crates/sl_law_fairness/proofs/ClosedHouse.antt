@@ -5,18 +5,18 @@ use Rattle.std.proofs.Math.Nat.{mul-le-mul_left}
 use Rattle.std.proofs.lemmas.Bool.{cases_lt, lt-ltb}
 use Rattle.std.proofs.lemmas.List.{length-map}
 use Rattle.std.proofs.lemmas.List.Sums.{sum_by-cons}
-use Rattle.sl_ratio.specs.declared.method.Divisor.TheVariants.{Webster}
-use Rattle.sl_ratio.specs.Quotient.{Quotient, AtMost, Below, quotient}
-use Rattle.sl_ratio.proofs.Order.{AtMost-trans, Below-AtMost}
-use Rattle.sl_stages.specs.methods.Field.{InField, IsEmptyField, no_minima}
-use Rattle.sl_stages.specs.methods.Allocations.{IsDivisorAllocation}
-use Rattle.sl_stages.specs.methods.LeastHouse.{outside_sum, AllMeet, GrownTo, IsGrowth}
-use Rattle.sl_stages.specs.laws.Ladders.{IsSettled, divisor_ladders}
-use Rattle.sl_stages.proofs.methods.SeatSums.{sum-cons, some_less, none_needed, length_zeros, sum_zeros}
-use Rattle.sl_stages.proofs.methods.ListedEntries.{cases_all}
-use Rattle.sl_stages.proofs.methods.OneBatch.{settled_below, settled_above}
-use Rattle.sl_stages.proofs.methods.DivisorProofs.{in_range, has_of, free_tops, divisor_allocations}
-use Rattle.sl_stages.proofs.methods.HamiltonProofs.{at_map, whole_low, whole_high}
+use Rattle.sl_base_quotients.specs.declared.method.Divisor.TheVariants.{Webster}
+use Rattle.sl_base_quotients.specs.Quotient.{Quotient, AtMost, Below, quotient}
+use Rattle.sl_base_quotients.proofs.Order.{AtMost-trans, Below-AtMost}
+use Rattle.sl_law_meaning.specs.methods.Field.{InField, IsEmptyField, no_minima}
+use Rattle.sl_law_meaning.specs.methods.Allocations.{IsDivisorAllocation}
+use Rattle.sl_law_meaning.specs.methods.LeastHouse.{outside_sum, AllMeet, GrownTo, IsGrowth}
+use Rattle.sl_law_meaning.specs.laws.Ladders.{IsSettled, divisor_ladders}
+use Rattle.sl_law_meaning.proofs.methods.SeatSums.{sum-cons, some_less, none_needed, length_zeros, sum_zeros}
+use Rattle.sl_law_meaning.proofs.methods.ListedEntries.{cases_all}
+use Rattle.sl_law_meaning.proofs.methods.OneBatch.{settled_below, settled_above}
+use Rattle.sl_law_meaning.proofs.methods.DivisorProofs.{in_range, has_of, free_tops, divisor_allocations}
+use Rattle.sl_law_meaning.proofs.methods.HamiltonProofs.{at_map, whole_low, whole_high}
 use Rattle.sl_law_fairness.specs.ClosedHouse.{seats_by, needed_by, HasMinimum, IsGreatestNeed, ClosedHouse, GrowthBound}
 use Rattle.sl_law_fairness.specs.NearQuota.{in_field}
 use Rattle.sl_law_fairness.proofs.Chains.{falls_weak}

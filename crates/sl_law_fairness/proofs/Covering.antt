@@ -5,25 +5,25 @@ use Rattle.std.specs.List.{AllByRecursion as Every, AllZip, enumerate_from}
 use Rattle.std.proofs.lemmas.Bool.{and_parts, both_ways, false≢true}
 use Rattle.std.proofs.lemmas.Option.{none-some, same_Some}
 use Rattle.std.proofs.lemmas.List.Sums.{sum_by-cons}
-use Rattle.sl_stages.specs.declared.book.Seating.{Seating}
-use Rattle.sl_stages.specs.declared.book.Seating.TheVariants as seating
-use Rattle.sl_stages.specs.declared.returns.Win.{Win}
-use Rattle.sl_stages.specs.declared.table.ListSeats.{ListSeats}
-use Rattle.sl_stages.specs.declared.table.Outcome.TheVariants as outcome
-use Rattle.sl_stages.specs.declared.table.Placed.{Placed}
-use Rattle.sl_stages.specs.declared.table.Placed.TheVariants as placed
-use Rattle.sl_stages.specs.book.Trees.{BookTree}
-use Rattle.sl_stages.specs.returns.Election.{Election, IsElection}
-use Rattle.sl_stages.specs.returns.Facts.{lists_of, list_cell, is_in, is_of, is_eligible, has_eligible_list, is_on_list}
-use Rattle.sl_stages.specs.methods.Ties.{Choice, Decided, Tied}
-use Rattle.sl_stages.specs.meaning.Records.{Records}
-use Rattle.sl_stages.specs.meaning.Seating.{table_line, placed_on, winners_of, tie_of, seated_on, cover_place, covered_places, cover_table}
-use Rattle.sl_stages.specs.meaning.Tables.{SeatTable}
-use Rattle.sl_stages.specs.meaning.Means.{IsCovered, IsSeated}
-use Rattle.sl_stages.specs.laws.MeaningLaws.{IsListOf}
-use Rattle.sl_stages.proofs.meaning.CoveredWinners.{covered_winners, IsNumbered, are_numbered, table_without_faults}
-use Rattle.sl_stages.proofs.meaning.DistinctLists.{always, every_weaker, every_passes, every_filter, every_zipped}
-use Rattle.sl_stages.proofs.meaning.Members.{among, some_piece, among_numbers}
+use Rattle.sl_law_meaning.specs.declared.book.Seating.{Seating}
+use Rattle.sl_law_meaning.specs.declared.book.Seating.TheVariants as seating
+use Rattle.sl_law_meaning.specs.declared.election.Win.{Win}
+use Rattle.sl_law_meaning.specs.declared.table.ListSeats.{ListSeats}
+use Rattle.sl_law_meaning.specs.declared.table.Outcome.TheVariants as outcome
+use Rattle.sl_law_meaning.specs.declared.table.Placed.{Placed}
+use Rattle.sl_law_meaning.specs.declared.table.Placed.TheVariants as placed
+use Rattle.sl_law_meaning.specs.book.Trees.{BookTree}
+use Rattle.sl_law_meaning.specs.returns.Election.{Election, IsElection}
+use Rattle.sl_law_meaning.specs.returns.Facts.{lists_of, list_cell, is_in, is_of, is_eligible, has_eligible_list, is_on_list}
+use Rattle.sl_law_meaning.specs.methods.Ties.{Choice, Decided, Tied}
+use Rattle.sl_law_meaning.specs.meaning.Records.{Records}
+use Rattle.sl_law_meaning.specs.meaning.Seating.{table_line, placed_on, winners_of, tie_of, seated_on, cover_place, covered_places, cover_table}
+use Rattle.sl_law_meaning.specs.meaning.Tables.{SeatTable}
+use Rattle.sl_law_meaning.specs.meaning.Means.{IsCovered, IsSeated}
+use Rattle.sl_law_meaning.specs.laws.MeaningLaws.{IsListOf}
+use Rattle.sl_law_meaning.proofs.meaning.CoveredWinners.{covered_winners, IsNumbered, are_numbered, table_without_faults}
+use Rattle.sl_law_meaning.proofs.meaning.DistinctLists.{always, every_weaker, every_passes, every_filter, every_zipped}
+use Rattle.sl_law_meaning.proofs.meaning.Members.{among, some_piece, among_numbers}
 use Rattle.sl_law_fairness.specs.Winners.{base_seats, winners_on, is_single, total_seats, IsLine, CoverKeepsBase, IsCoveredPlace, CoverPlaces}
 use Rattle.sl_law_fairness.proofs.ListColumns.{sum_mapped, zip_map, each_is_map, are_lists}
 use Rattle.sl_law_fairness.proofs.Bases.{end_of, one_base, sum_of_base}

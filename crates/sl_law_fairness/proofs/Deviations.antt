@@ -3,8 +3,8 @@ use Rattle.std.proofs.Common.{◌≡◌, ℕ, zero, suc, ◌+◌, ◌-◌, ◌*�
 use Rattle.std.proofs.Math.Nat.{mul-le-mul_left, mul-le-mul_right, le_of_mul-le-mul_left}
 use Rattle.std.proofs.lemmas.Nat.{mul-lt}
 use Rattle.std.proofs.lemmas.Bool.{cases_lt}
-use Rattle.sl_ratio.specs.Quotient.{AtMost}
-use Rattle.sl_stages.proofs.methods.SeatSums.{sum-cons}
+use Rattle.sl_base_quotients.specs.Quotient.{AtMost}
+use Rattle.sl_law_meaning.proofs.methods.SeatSums.{sum-cons}
 use Rattle.sl_law_fairness.specs.Hamilton.{apart}
 use Rattle.sl_law_fairness.specs.Optimal.{IsGivenOut, deviations, WebsterLeastDeviations}
 use Rattle.sl_law_fairness.proofs.Optimal.{squares, same_den, den_positive, webster_least_squares}

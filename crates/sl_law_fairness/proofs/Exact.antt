@@ -3,13 +3,13 @@ use Rattle.std.proofs.Common.{◌≡◌, ℕ, ◌+◌, ◌-◌, ◌*◌, ◌<◌
 use Rattle.std.proofs.Math.Nat.{le_of_mul-le-mul_left}
 use Rattle.std.proofs.lemmas.Nat.{mul-lt}
 use Rattle.std.proofs.lemmas.Bool.{cases_lt}
-use Rattle.sl_ratio.specs.declared.method.Divisor.{Divisor}
-use Rattle.sl_ratio.specs.declared.method.Divisor.TheVariants.{Adams, Dean, Hill, Webster, Jefferson}
-use Rattle.sl_ratio.specs.Quotient.{Below, quotient}
-use Rattle.sl_ratio.proofs.Order.{Below-AtMost_weak}
-use Rattle.sl_stages.specs.methods.Field.{InField, no_minima}
-use Rattle.sl_stages.specs.methods.Allocations.{IsDivisorAllocation}
-use Rattle.sl_stages.proofs.methods.SeatSums.{none_needed, entry_le_sum}
+use Rattle.sl_base_quotients.specs.declared.method.Divisor.{Divisor}
+use Rattle.sl_base_quotients.specs.declared.method.Divisor.TheVariants.{Adams, Dean, Hill, Webster, Jefferson}
+use Rattle.sl_base_quotients.specs.Quotient.{Below, quotient}
+use Rattle.sl_base_quotients.proofs.Order.{Below-AtMost_weak}
+use Rattle.sl_law_meaning.specs.methods.Field.{InField, no_minima}
+use Rattle.sl_law_meaning.specs.methods.Allocations.{IsDivisorAllocation}
+use Rattle.sl_law_meaning.proofs.methods.SeatSums.{none_needed, entry_le_sum}
 use Rattle.sl_law_fairness.specs.Principles.{Exact}
 use Rattle.sl_law_fairness.proofs.Apart.{only}
 

@@ -1,14 +1,14 @@
 -- Were it not so, the entry's last seat by v would be worth what the other's next one is, so it could lose it by a lot.
 use Rattle.std.proofs.Common.{◌≡◌, ◌≢◌, ℕ, ◌-◌, ◌<◌, ◌≤◌, List, length, get_or, slice_index, inl, inr, arith, sym, subst}
 use Rattle.std.proofs.lemmas.Bool.{cases_lt}
-use Rattle.sl_ratio.specs.declared.method.Divisor.{Divisor}
-use Rattle.sl_ratio.specs.Quotient.{AtMost, Below, quotient}
-use Rattle.sl_ratio.specs.inner.QuotientLaws.{quotient_positive}
-use Rattle.sl_ratio.proofs.Order.{AtMost-trans, Below-AtMost, Below-irrefl}
-use Rattle.sl_stages.specs.methods.Field.{InField, no_minima}
-use Rattle.sl_stages.specs.methods.Allocations.{IsDivisorAllocation}
-use Rattle.sl_stages.proofs.methods.SeatSums.{none_needed, length_zeros, sum_zeros, some_greater}
-use Rattle.sl_stages.proofs.methods.DivisorProofs.{divisor_allocations}
+use Rattle.sl_base_quotients.specs.declared.method.Divisor.{Divisor}
+use Rattle.sl_base_quotients.specs.Quotient.{AtMost, Below, quotient}
+use Rattle.sl_base_quotients.specs.inner.QuotientLaws.{quotient_positive}
+use Rattle.sl_base_quotients.proofs.Order.{AtMost-trans, Below-AtMost, Below-irrefl}
+use Rattle.sl_law_meaning.specs.methods.Field.{InField, no_minima}
+use Rattle.sl_law_meaning.specs.methods.Allocations.{IsDivisorAllocation}
+use Rattle.sl_law_meaning.proofs.methods.SeatSums.{none_needed, length_zeros, sum_zeros, some_greater}
+use Rattle.sl_law_meaning.proofs.methods.DivisorProofs.{divisor_allocations}
 use Rattle.sl_law_fairness.proofs.Chains.{falls_weak, falls_strict, rises_weak, in_field}
 use Rattle.sl_law_fairness.proofs.Moves.{other}
 

@@ -3,13 +3,13 @@ use Rattle.std.proofs.Common.{◌≡◌, ℕ, zero, suc, ◌+◌, ◌-◌, ◌�
 use Rattle.std.specs.Prelude.{All}
 use Rattle.std.proofs.lemmas.Bool.{cases_lt}
 use Rattle.std.proofs.lemmas.List.Elements.{All-head, All-tail}
-use Rattle.sl_ratio.specs.declared.method.Divisor.{Divisor}
-use Rattle.sl_ratio.specs.Quotient.{AtMost, quotient}
-use Rattle.sl_stages.specs.methods.Field.{InField, no_minima}
-use Rattle.sl_stages.specs.methods.Allocations.{IsDivisorAllocation}
-use Rattle.sl_stages.specs.methods.LeastHouse.{outside_minima, outside_sum, AllMeet, IsGrownAllocation}
-use Rattle.sl_stages.proofs.methods.SeatSums.{sum-cons, none_needed}
-use Rattle.sl_stages.proofs.methods.HouseProofs.{length-outside, outside_in, growth_batches}
+use Rattle.sl_base_quotients.specs.declared.method.Divisor.{Divisor}
+use Rattle.sl_base_quotients.specs.Quotient.{AtMost, quotient}
+use Rattle.sl_law_meaning.specs.methods.Field.{InField, no_minima}
+use Rattle.sl_law_meaning.specs.methods.Allocations.{IsDivisorAllocation}
+use Rattle.sl_law_meaning.specs.methods.LeastHouse.{outside_minima, outside_sum, AllMeet, IsGrownAllocation}
+use Rattle.sl_law_meaning.proofs.methods.SeatSums.{sum-cons, none_needed}
+use Rattle.sl_law_meaning.proofs.methods.HouseProofs.{length-outside, outside_in, growth_batches}
 use Rattle.sl_law_fairness.specs.Growths.{MeetsEach, GrownHouseMeets, GrowthStays, GrownByVotes}
 use Rattle.sl_law_fairness.specs.Parts.{part}
 use Rattle.sl_law_fairness.proofs.Parts.{coherent}

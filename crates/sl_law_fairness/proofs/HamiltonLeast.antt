@@ -3,11 +3,11 @@
 use Rattle.std.proofs.Common.{◌≡◌, ℕ, zero, suc, ◌+◌, ◌-◌, ◌*◌, ◌<◌, ◌≤◌, false, List, [], ◌∷◌, length, get_or, sum, inl, inr, arith, sym, subst}
 use Rattle.std.proofs.Math.Nat.{mul-le-mul_left}
 use Rattle.std.proofs.lemmas.Bool.{cases_lt, cases_eq, false≢true}
-use Rattle.sl_stages.specs.methods.Field.{InField}
-use Rattle.sl_stages.specs.methods.Hamilton.{whole, remainder, IsHamiltonAllocation}
-use Rattle.sl_stages.proofs.methods.SeatSums.{entry_le_sum, sum-cons}
-use Rattle.sl_stages.proofs.methods.DivisorProofs.{in_range}
-use Rattle.sl_stages.proofs.methods.HamiltonProofs.{whole_high}
+use Rattle.sl_law_meaning.specs.methods.Field.{InField}
+use Rattle.sl_law_meaning.specs.methods.Hamilton.{whole, remainder, IsHamiltonAllocation}
+use Rattle.sl_law_meaning.proofs.methods.SeatSums.{entry_le_sum, sum-cons}
+use Rattle.sl_law_meaning.proofs.methods.DivisorProofs.{in_range}
+use Rattle.sl_law_meaning.proofs.methods.HamiltonProofs.{whole_high}
 use Rattle.sl_law_fairness.specs.Hamilton.{apart, deviation, HamiltonLeastDeviation}
 use Rattle.sl_law_fairness.proofs.HamiltonVotes.{share, compared}
 

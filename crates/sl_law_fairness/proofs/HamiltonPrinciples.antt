@@ -5,11 +5,11 @@ use Rattle.std.specs.List.{range_with_len}
 use Rattle.std.proofs.Math.Nat.{mul-le-mul_left, le_of_mul-le-mul_left, mul-lt-mul_of_pos_left, lt_of_mul-lt-mul_left, mul-div-mul_left, mul-div_cancel_left}
 use Rattle.std.proofs.lemmas.Bool.{cases_lt, true≢false}
 use Rattle.std.proofs.lemmas.List.{length-map}
-use Rattle.sl_ratio.specs.Quotient.{Quotient, AtMost}
-use Rattle.sl_stages.specs.methods.Field.{InField}
-use Rattle.sl_stages.specs.methods.Hamilton.{whole, remainder, is_leading, remainder_rank, IsHamiltonAllocation}
-use Rattle.sl_stages.proofs.methods.SeatSums.{some_greater}
-use Rattle.sl_stages.proofs.methods.HamiltonProofs.{at_map, sum_times}
+use Rattle.sl_base_quotients.specs.Quotient.{Quotient, AtMost}
+use Rattle.sl_law_meaning.specs.methods.Field.{InField}
+use Rattle.sl_law_meaning.specs.methods.Hamilton.{whole, remainder, is_leading, remainder_rank, IsHamiltonAllocation}
+use Rattle.sl_law_meaning.proofs.methods.SeatSums.{some_greater}
+use Rattle.sl_law_meaning.proofs.methods.HamiltonProofs.{at_map, sum_times}
 use Rattle.sl_law_fairness.specs.Parts.{part}
 use Rattle.sl_law_fairness.specs.Principles.{HamiltonBalanced, HamiltonExact, HamiltonHomogeneous, HamiltonAnonymous}
 use Rattle.sl_law_fairness.proofs.HamiltonVotes.{share, leading_parts, leading_from, at_most_one, at_least}

@@ -5,12 +5,12 @@ use Rattle.std.proofs.Math.Nat.{mul-le-mul_left, mul-le-mul_right, div-add-mod'}
 use Rattle.std.proofs.lemmas.Bool.{cases_lt, cases_eq, and_parts, and_from, ltb-true, lt-ltb, leb-true, le-leb, true≢false}
 use Rattle.std.proofs.lemmas.List.{get_or-set_same, get_or-set_other}
 use Rattle.std.proofs.lemmas.List.Sums.{sum_by-set}
-use Rattle.sl_ratio.specs.Quotient.{AtMost}
-use Rattle.sl_stages.specs.methods.Field.{InField}
-use Rattle.sl_stages.specs.methods.Hamilton.{whole, remainder, is_leading, IsHamiltonAllocation}
-use Rattle.sl_stages.proofs.methods.SeatSums.{entry_le_sum, sum_mono, some_greater}
-use Rattle.sl_stages.proofs.methods.DivisorProofs.{in_range}
-use Rattle.sl_stages.proofs.methods.HamiltonProofs.{whole_low}
+use Rattle.sl_base_quotients.specs.Quotient.{AtMost}
+use Rattle.sl_law_meaning.specs.methods.Field.{InField}
+use Rattle.sl_law_meaning.specs.methods.Hamilton.{whole, remainder, is_leading, IsHamiltonAllocation}
+use Rattle.sl_law_meaning.proofs.methods.SeatSums.{entry_le_sum, sum_mono, some_greater}
+use Rattle.sl_law_meaning.proofs.methods.DivisorProofs.{in_range}
+use Rattle.sl_law_meaning.proofs.methods.HamiltonProofs.{whole_low}
 use Rattle.sl_law_fairness.specs.Hamilton.{HamiltonVotes, HamiltonOrdered}
 use Rattle.sl_law_fairness.proofs.Sums.{whole_greatest}
 use Rattle.sl_law_fairness.proofs.Quota.{hamilton_in_quota}

@@ -2,18 +2,18 @@
 use Rattle.std.proofs.Common.{◌≡◌, ℕ, ◌+◌, ◌-◌, ◌<◌, ◌≤◌, List, [], ◌∷◌, length, get_or, inl, inr, arith, sym, ◌∙◌, subst}
 use Rattle.std.specs.Prelude.{Contains}
 use Rattle.std.proofs.lemmas.Bool.{cases_eq}
-use Rattle.sl_ratio.specs.declared.method.Divisor.{Divisor}
-use Rattle.sl_ratio.specs.Quotient.{AtMost, quotient}
-use Rattle.sl_ratio.specs.inner.QuotientLaws.{quotient_positive}
-use Rattle.sl_ratio.proofs.Order.{AtMost-trans}
-use Rattle.sl_stages.specs.methods.Field.{InField, no_minima}
-use Rattle.sl_stages.specs.methods.Allocations.{IsDivisorAllocation}
-use Rattle.sl_stages.specs.laws.Ladders.{RaisesEach, divisor_ladders}
-use Rattle.sl_stages.proofs.methods.SeatSums.{length_zeros}
-use Rattle.sl_stages.proofs.methods.RaisedSeats.{raise, length-raise, sum-raise, Contains-cases, Contains-none, Contains-head}
-use Rattle.sl_stages.proofs.methods.LadderProofs.{raise_each}
-use Rattle.sl_stages.proofs.methods.ManyBatches.{cases_peer}
-use Rattle.sl_stages.proofs.methods.DivisorProofs.{falling, has_of, field_of, in_range}
+use Rattle.sl_base_quotients.specs.declared.method.Divisor.{Divisor}
+use Rattle.sl_base_quotients.specs.Quotient.{AtMost, quotient}
+use Rattle.sl_base_quotients.specs.inner.QuotientLaws.{quotient_positive}
+use Rattle.sl_base_quotients.proofs.Order.{AtMost-trans}
+use Rattle.sl_law_meaning.specs.methods.Field.{InField, no_minima}
+use Rattle.sl_law_meaning.specs.methods.Allocations.{IsDivisorAllocation}
+use Rattle.sl_law_meaning.specs.laws.Ladders.{RaisesEach, divisor_ladders}
+use Rattle.sl_law_meaning.proofs.methods.SeatSums.{length_zeros}
+use Rattle.sl_law_meaning.proofs.methods.RaisedSeats.{raise, length-raise, sum-raise, Contains-cases, Contains-none, Contains-head}
+use Rattle.sl_law_meaning.proofs.methods.LadderProofs.{raise_each}
+use Rattle.sl_law_meaning.proofs.methods.ManyBatches.{cases_peer}
+use Rattle.sl_law_meaning.proofs.methods.DivisorProofs.{falling, has_of, field_of, in_range}
 use Rattle.sl_law_fairness.specs.Houses.{HouseMonotone}
 use Rattle.sl_law_fairness.proofs.Chains.{falls_weak}
 

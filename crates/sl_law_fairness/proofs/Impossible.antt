@@ -3,8 +3,8 @@ use Rattle.std.proofs.Common.{◌≡◌, ◌≢◌, ℕ, ◌+◌, ◌*◌, ◌<�
 use Rattle.std.proofs.lemmas.Bool.{cases_lt}
 use Rattle.std.proofs.lemmas.List.{length-set, get_or-set_same, get_or-set_other, get_or_past}
 use Rattle.std.proofs.lemmas.Nat.{mul-lt}
-use Rattle.sl_stages.proofs.methods.DivisorProofs.{in_range}
-use Rattle.sl_stages.proofs.methods.SeatSums.{sum-cons, entry_le_sum}
+use Rattle.sl_law_meaning.proofs.methods.DivisorProofs.{in_range}
+use Rattle.sl_law_meaning.proofs.methods.SeatSums.{sum-cons, entry_le_sum}
 use Rattle.sl_law_fairness.specs.Impossible.{StaysWithinQuota, KeepsOrder, IsPopulationMonotone, Impossibility, exchanged, TreatsAlike, ImpossibilityAlike}
 
 sum_four : (xs : List ℕ) → length xs ≡ 4 → sum xs ≡ get_or xs 0 0 + get_or xs 1 0 + get_or xs 2 0 + get_or xs 3 0

@@ -1,10 +1,10 @@
 -- Two houses: an entry with fewer seats in the larger one shares all its quotients there with one that has more.
 use Rattle.std.proofs.Common.{◌≡◌, ◌≢◌, ◌+◌, ◌-◌, ◌<◌, get_or, inl, inr, arith, sym, subst}
 use Rattle.std.proofs.lemmas.Bool.{cases_lt}
-use Rattle.sl_ratio.specs.Quotient.{AtMost, quotient}
-use Rattle.sl_ratio.specs.inner.QuotientLaws.{quotient_positive}
-use Rattle.sl_ratio.proofs.Order.{AtMost-trans}
-use Rattle.sl_stages.proofs.methods.SeatSums.{some_greater}
+use Rattle.sl_base_quotients.specs.Quotient.{AtMost, quotient}
+use Rattle.sl_base_quotients.specs.inner.QuotientLaws.{quotient_positive}
+use Rattle.sl_base_quotients.proofs.Order.{AtMost-trans}
+use Rattle.sl_law_meaning.proofs.methods.SeatSums.{some_greater}
 use Rattle.sl_law_fairness.specs.Houses.{LargerHouse}
 use Rattle.sl_law_fairness.proofs.Chains.{falls_weak, falls_strict, in_field}
 use Rattle.sl_law_fairness.proofs.Moves.{holder_tied, taker_tied}

@@ -4,17 +4,17 @@ use Rattle.std.specs.Prelude.{if◌then◌else◌, zip, flat_map, filter_map, sl
 use Rattle.std.specs.List.{AllByRecursion as Every, enumerate_from}
 use Rattle.std.proofs.lemmas.Bool.{cases_Bool, cases_eq, cond-true, cond-false, or_cases, or_left, or_right, eq-eqb, eqb-true, false_from_ne_true, both_ways, false≢true}
 use Rattle.std.proofs.lemmas.Option.{none-some, same_Some, get_or_from_slice_get}
-use Rattle.sl_stages.specs.declared.returns.Win.{Win}
-use Rattle.sl_stages.specs.declared.table.Placed.{Placed}
-use Rattle.sl_stages.specs.declared.table.Placed.TheVariants as placed
-use Rattle.sl_stages.specs.returns.Election.{Election}
-use Rattle.sl_stages.specs.returns.Facts.{lists_of, is_in, is_of, is_eligible, has_eligible_list}
-use Rattle.sl_stages.specs.methods.Ties.{Choice, Decided, Tied}
-use Rattle.sl_stages.specs.meaning.Seating.{winners_of, IsSeating, tie_of, seated_on, cover_place, covered_places, cover_table}
-use Rattle.sl_stages.proofs.meaning.AwardedEntries.{every_at}
-use Rattle.sl_stages.proofs.meaning.CoveredWinners.{chosen_numbers, IsNumbered, are_numbered, table_without_faults}
-use Rattle.sl_stages.proofs.meaning.DistinctLists.{every_weaker, every_passes, every_both}
-use Rattle.sl_stages.proofs.meaning.Members.{In, in_filter, zip_each, among, among_piece, some_piece}
+use Rattle.sl_law_meaning.specs.declared.election.Win.{Win}
+use Rattle.sl_law_meaning.specs.declared.table.Placed.{Placed}
+use Rattle.sl_law_meaning.specs.declared.table.Placed.TheVariants as placed
+use Rattle.sl_law_meaning.specs.returns.Election.{Election}
+use Rattle.sl_law_meaning.specs.returns.Facts.{lists_of, is_in, is_of, is_eligible, has_eligible_list}
+use Rattle.sl_law_meaning.specs.methods.Ties.{Choice, Decided, Tied}
+use Rattle.sl_law_meaning.specs.meaning.Seating.{winners_of, IsSeating, tie_of, seated_on, cover_place, covered_places, cover_table}
+use Rattle.sl_law_meaning.proofs.meaning.AwardedEntries.{every_at}
+use Rattle.sl_law_meaning.proofs.meaning.CoveredWinners.{chosen_numbers, IsNumbered, are_numbered, table_without_faults}
+use Rattle.sl_law_meaning.proofs.meaning.DistinctLists.{every_weaker, every_passes, every_both}
+use Rattle.sl_law_meaning.proofs.meaning.Members.{In, in_filter, zip_each, among, among_piece, some_piece}
 use Rattle.sl_law_fairness.specs.Winners.{CoverSeatsLargest}
 use Rattle.sl_law_fairness.proofs.Bases.{end_of}
 use Rattle.sl_law_fairness.proofs.Covering.{covered_end}

@@ -1,8 +1,8 @@
 -- A smaller divisor rounds each vote to no fewer seats.
 use Rattle.std.proofs.Common.{ℕ, ◌+◌, ◌-◌, ◌*◌, ◌/◌, ◌<◌, ◌≤◌, List, [], ◌∷◌, get_or, map, sum, arith}
 use Rattle.std.proofs.Math.Nat.{mul-le-mul_left, le_of_mul-le-mul_left}
-use Rattle.sl_stages.proofs.methods.SeatSums.{sum-cons}
-use Rattle.sl_stages.proofs.methods.HamiltonProofs.{whole_low}
+use Rattle.sl_law_meaning.proofs.methods.SeatSums.{sum-cons}
+use Rattle.sl_law_meaning.proofs.methods.HamiltonProofs.{whole_low}
 use Rattle.sl_law_fairness.specs.ClosedHouse.{LeastDivisorDecides}
 use Rattle.sl_law_fairness.proofs.Sums.{whole_greatest}
 

@@ -4,11 +4,11 @@ use Rattle.std.proofs.Math.Nat.{mul-le-mul_left}
 use Rattle.std.proofs.lemmas.Bool.{cases_lt}
 use Rattle.std.proofs.lemmas.List.{length-set, get_or-set_other, get_or_past}
 use Rattle.std.proofs.lemmas.List.Sums.{sum_by-set}
-use Rattle.sl_stages.specs.methods.Field.{InField}
-use Rattle.sl_stages.specs.methods.Hamilton.{whole, remainder}
-use Rattle.sl_stages.proofs.methods.SeatSums.{some_greater}
-use Rattle.sl_stages.proofs.methods.DivisorProofs.{in_range}
-use Rattle.sl_stages.proofs.methods.HamiltonProofs.{at_map, sum_times, whole_high}
+use Rattle.sl_law_meaning.specs.methods.Field.{InField}
+use Rattle.sl_law_meaning.specs.methods.Hamilton.{whole, remainder}
+use Rattle.sl_law_meaning.proofs.methods.SeatSums.{some_greater}
+use Rattle.sl_law_meaning.proofs.methods.DivisorProofs.{in_range}
+use Rattle.sl_law_meaning.proofs.methods.HamiltonProofs.{at_map, sum_times, whole_high}
 use Rattle.sl_law_fairness.specs.Hamilton.{apart, deviation, LeastDeviationIsHamilton}
 use Rattle.sl_law_fairness.proofs.HamiltonVotes.{share}
 

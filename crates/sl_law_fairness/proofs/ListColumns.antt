@@ -5,10 +5,10 @@ use Rattle.std.specs.List.{AllByRecursion as Every, AllZip, range_with_len}
 use Rattle.std.proofs.lemmas.Bool.{cases_Bool, cond-true, cond-false}
 use Rattle.std.proofs.lemmas.List.{map-append, take_all}
 use Rattle.std.proofs.lemmas.List.Sums.{sum_by-cons, sum_by-append, sum_by_more}
-use Rattle.sl_stages.specs.returns.Election.{Election, lands_of, parties_of, has_list}
-use Rattle.sl_stages.specs.returns.Facts.{lands, parties, each_list, lists_of, list_cell}
-use Rattle.sl_stages.specs.laws.MeaningLaws.{IsListOf}
-use Rattle.sl_stages.proofs.meaning.DistinctLists.{every_weaker, every_map, every_passes, every_pieces}
+use Rattle.sl_law_meaning.specs.returns.Election.{Election, lands_of, parties_of, has_list}
+use Rattle.sl_law_meaning.specs.returns.Facts.{lands, parties, each_list, lists_of, list_cell}
+use Rattle.sl_law_meaning.specs.laws.MeaningLaws.{IsListOf}
+use Rattle.sl_law_meaning.proofs.meaning.DistinctLists.{every_weaker, every_map, every_passes, every_pieces}
 use Rattle.sl_law_fairness.specs.Winners.{base_seats}
 
 -- ---- sums of lists made of others

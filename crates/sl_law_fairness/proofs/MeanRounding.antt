@@ -1,11 +1,11 @@
 -- Dean's and Hill's methods round at means of the numbers, harmonic and geometric ones.
 use Rattle.std.proofs.Common.{◌≡◌, ℕ, zero, suc, ◌+◌, ◌-◌, ◌*◌, ◌<◌, ◌≤◌, [], ◌∷◌, get_or, inl, inr, arith, subst}
 use Rattle.std.proofs.lemmas.Nat.{mul-lt}
-use Rattle.sl_ratio.specs.declared.method.Divisor.{Divisor}
-use Rattle.sl_ratio.specs.declared.method.Divisor.TheVariants.{Adams, Dean, Hill, Webster, Jefferson}
-use Rattle.sl_ratio.specs.Quotient.{Quotient, AtMost, quotient}
-use Rattle.sl_ratio.specs.inner.QuotientLaws.{quotient_positive}
-use Rattle.sl_ratio.proofs.Order.{AtMost-trans, decide_AtMost, not-AtMost}
+use Rattle.sl_base_quotients.specs.declared.method.Divisor.{Divisor}
+use Rattle.sl_base_quotients.specs.declared.method.Divisor.TheVariants.{Adams, Dean, Hill, Webster, Jefferson}
+use Rattle.sl_base_quotients.specs.Quotient.{Quotient, AtMost, quotient}
+use Rattle.sl_base_quotients.specs.inner.QuotientLaws.{quotient_positive}
+use Rattle.sl_base_quotients.proofs.Order.{AtMost-trans, decide_AtMost, not-AtMost}
 use Rattle.sl_law_fairness.specs.ByDivisor.{IsHarmonic, IsGeometric, DeanByDivisor, HillByDivisor, DivisorBetween}
 use Rattle.sl_law_fairness.proofs.Chains.{falls_weak}
 use Rattle.sl_law_fairness.proofs.ByDivisor.{IsRoundingOf, to_divisor, from_divisor}

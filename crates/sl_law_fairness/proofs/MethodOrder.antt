@@ -3,11 +3,11 @@ use Rattle.std.proofs.Common.{◌≡◌, ℕ, zero, suc, ◌+◌, ◌-◌, ◌*�
 use Rattle.std.proofs.Math.Nat.{mul-le-mul_left, le_of_mul-le-mul_left, mul-lt-mul_of_pos_right}
 use Rattle.std.proofs.lemmas.Nat.{mul-lt, mul-le}
 use Rattle.std.proofs.lemmas.Bool.{cases_lt}
-use Rattle.sl_ratio.specs.declared.method.Divisor.{Divisor}
-use Rattle.sl_ratio.specs.declared.method.Divisor.TheVariants.{Adams, Dean, Hill, Webster, Jefferson}
-use Rattle.sl_ratio.specs.Quotient.{AtMost, Below, quotient, method_number}
-use Rattle.sl_ratio.specs.inner.QuotientLaws.{quotient_positive, quotient_rises}
-use Rattle.sl_ratio.proofs.Order.{AtMost-trans, Below-AtMost, Below-irrefl}
+use Rattle.sl_base_quotients.specs.declared.method.Divisor.{Divisor}
+use Rattle.sl_base_quotients.specs.declared.method.Divisor.TheVariants.{Adams, Dean, Hill, Webster, Jefferson}
+use Rattle.sl_base_quotients.specs.Quotient.{AtMost, Below, quotient, method_number}
+use Rattle.sl_base_quotients.specs.inner.QuotientLaws.{quotient_positive, quotient_rises}
+use Rattle.sl_base_quotients.proofs.Order.{AtMost-trans, Below-AtMost, Below-irrefl}
 use Rattle.sl_law_fairness.specs.MethodOrder.{FavoursLarger}
 use Rattle.sl_law_fairness.proofs.Chains.{falls_weak, in_field}
 

@@ -4,14 +4,14 @@ use Rattle.std.proofs.Math.ListN.{length-set}
 use Rattle.std.proofs.lemmas.Bool.{cases_eq}
 use Rattle.std.proofs.lemmas.List.{get_or-set_same, get_or-set_other}
 use Rattle.std.proofs.lemmas.List.Sums.{sum_by-set}
-use Rattle.sl_ratio.specs.declared.method.Divisor.{Divisor}
-use Rattle.sl_ratio.specs.Quotient.{AtMost, quotient}
-use Rattle.sl_ratio.specs.inner.QuotientLaws.{quotient_positive}
-use Rattle.sl_ratio.proofs.Order.{AtMost-trans}
-use Rattle.sl_stages.specs.methods.Field.{InField}
-use Rattle.sl_stages.specs.methods.Allocations.{IsDivisorAllocation}
-use Rattle.sl_stages.specs.methods.Ties.{IsTied}
-use Rattle.sl_stages.proofs.methods.DivisorProofs.{in_range}
+use Rattle.sl_base_quotients.specs.declared.method.Divisor.{Divisor}
+use Rattle.sl_base_quotients.specs.Quotient.{AtMost, quotient}
+use Rattle.sl_base_quotients.specs.inner.QuotientLaws.{quotient_positive}
+use Rattle.sl_base_quotients.proofs.Order.{AtMost-trans}
+use Rattle.sl_law_meaning.specs.methods.Field.{InField}
+use Rattle.sl_law_meaning.specs.methods.Allocations.{IsDivisorAllocation}
+use Rattle.sl_law_meaning.specs.methods.Ties.{IsTied}
+use Rattle.sl_law_meaning.proofs.methods.DivisorProofs.{in_range}
 use Rattle.sl_law_fairness.proofs.Chains.{falls_weak, in_field}
 
 -- what moves seats between two places of a list

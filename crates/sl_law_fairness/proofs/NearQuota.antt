@@ -2,9 +2,9 @@
 use Rattle.std.proofs.Common.{◌≡◌, ℕ, ◌+◌, ◌-◌, ◌*◌, ◌<◌, ◌≤◌, length, get_or, sum, inl, inr, arith, sym, subst}
 use Rattle.std.proofs.Math.Nat.{mul-le-mul_left, mul-lt-mul_of_pos_right}
 use Rattle.std.proofs.lemmas.Bool.{cases_lt}
-use Rattle.sl_ratio.specs.Quotient.{AtMost, quotient}
-use Rattle.sl_stages.specs.methods.Field.{InField}
-use Rattle.sl_stages.proofs.methods.SeatSums.{none_needed}
+use Rattle.sl_base_quotients.specs.Quotient.{AtMost, quotient}
+use Rattle.sl_law_meaning.specs.methods.Field.{InField}
+use Rattle.sl_law_meaning.proofs.methods.SeatSums.{none_needed}
 use Rattle.sl_law_fairness.specs.NearQuota.{WebsterNearQuota}
 use Rattle.sl_law_fairness.specs.Principles.{Balanced}
 use Rattle.sl_law_fairness.proofs.Chains.{falls_strict, in_field}

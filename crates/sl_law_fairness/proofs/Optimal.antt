@@ -3,14 +3,14 @@ use Rattle.std.proofs.Common.{◌≡◌, ◌↔◌, ◌≢◌, ℕ, zero, suc, �
 use Rattle.std.proofs.Math.Nat.{mul-le-mul_left, mul-le-mul_right, le_of_mul-le-mul_left, mul-lt-mul_of_pos_right}
 use Rattle.std.proofs.lemmas.Nat.{mul-lt}
 use Rattle.std.proofs.lemmas.Bool.{cases_lt, cases_eq}
-use Rattle.sl_ratio.specs.declared.method.Divisor.{Divisor}
-use Rattle.sl_ratio.specs.declared.method.Divisor.TheVariants.{Adams, Webster}
-use Rattle.sl_ratio.specs.Quotient.{Quotient, AtMost, quotient}
-use Rattle.sl_ratio.proofs.Order.{decide_AtMost}
-use Rattle.sl_stages.specs.methods.Field.{InField, no_minima}
-use Rattle.sl_stages.specs.methods.Allocations.{IsDivisorAllocation}
-use Rattle.sl_stages.proofs.methods.SeatSums.{none_needed, some_greater, sum-cons}
-use Rattle.sl_stages.proofs.methods.DivisorProofs.{in_range}
+use Rattle.sl_base_quotients.specs.declared.method.Divisor.{Divisor}
+use Rattle.sl_base_quotients.specs.declared.method.Divisor.TheVariants.{Adams, Webster}
+use Rattle.sl_base_quotients.specs.Quotient.{Quotient, AtMost, quotient}
+use Rattle.sl_base_quotients.proofs.Order.{decide_AtMost}
+use Rattle.sl_law_meaning.specs.methods.Field.{InField, no_minima}
+use Rattle.sl_law_meaning.specs.methods.Allocations.{IsDivisorAllocation}
+use Rattle.sl_law_meaning.proofs.methods.SeatSums.{none_needed, some_greater, sum-cons}
+use Rattle.sl_law_meaning.proofs.methods.DivisorProofs.{in_range}
 use Rattle.sl_law_fairness.specs.Optimal.{IsGivenOut, JeffersonLeastMost, AdamsMostLeast}
 use Rattle.sl_law_fairness.proofs.Chains.{falls_weak}
 use Rattle.sl_law_fairness.proofs.ByDivisor.{some_divisor}

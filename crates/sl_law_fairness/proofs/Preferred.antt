@@ -3,11 +3,11 @@ use Rattle.std.proofs.Common.{◌≡◌, ◌≢◌, ℕ, zero, suc, ◌+◌, ◌
 use Rattle.std.specs.Prelude.{nat_lt, nat_le}
 use Rattle.std.proofs.Math.Nat.{mul-le-mul_left, div-add-mod'}
 use Rattle.std.proofs.lemmas.Bool.{cases_lt, cases_eq, cases_Bool, and_parts, and_from, ltb-true, lt-ltb, le-leb, true≢false}
-use Rattle.sl_ratio.specs.Quotient.{AtMost}
-use Rattle.sl_stages.specs.methods.Field.{InField}
-use Rattle.sl_stages.specs.methods.Hamilton.{whole, remainder, is_leading, IsHamiltonAllocation}
-use Rattle.sl_stages.proofs.methods.SeatSums.{sum-cons, entry_le_sum}
-use Rattle.sl_stages.proofs.methods.DivisorProofs.{in_range}
+use Rattle.sl_base_quotients.specs.Quotient.{AtMost}
+use Rattle.sl_law_meaning.specs.methods.Field.{InField}
+use Rattle.sl_law_meaning.specs.methods.Hamilton.{whole, remainder, is_leading, IsHamiltonAllocation}
+use Rattle.sl_law_meaning.proofs.methods.SeatSums.{sum-cons, entry_le_sum}
+use Rattle.sl_law_meaning.proofs.methods.DivisorProofs.{in_range}
 use Rattle.sl_law_fairness.specs.Majorities.{HamiltonMajority}
 use Rattle.sl_law_fairness.proofs.Sums.{times_none}
 use Rattle.sl_law_fairness.proofs.Quota.{summed}

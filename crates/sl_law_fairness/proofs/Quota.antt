@@ -4,17 +4,17 @@ use Rattle.std.specs.Prelude.{◌&&◌, nat_lt, nat_le}
 use Rattle.std.proofs.Math.Nat.{mul-le-mul_left, div-add-mod'}
 use Rattle.std.proofs.lemmas.Bool.{cases_lt, cases_Bool, and_parts, ltb-true, leb-true, true≢false}
 use Rattle.std.proofs.lemmas.List.{length-map}
-use Rattle.sl_ratio.specs.declared.method.Divisor.TheVariants.{Adams, Jefferson}
-use Rattle.sl_ratio.specs.Quotient.{AtMost}
-use Rattle.sl_stages.specs.methods.Field.{InField, no_minima}
-use Rattle.sl_stages.specs.methods.Allocations.{IsDivisorAllocation}
-use Rattle.sl_stages.specs.methods.Hamilton.{whole, remainder, is_leading, IsHamiltonAllocation}
-use Rattle.sl_stages.proofs.methods.SeatSums.{entry_le_sum, none_needed}
-use Rattle.sl_stages.proofs.methods.DivisorProofs.{in_range}
-use Rattle.sl_stages.proofs.methods.HamiltonProofs.{at_map, zero_div}
+use Rattle.sl_base_quotients.specs.declared.method.Divisor.TheVariants.{Adams, Jefferson}
+use Rattle.sl_base_quotients.specs.Quotient.{AtMost}
+use Rattle.sl_law_meaning.specs.methods.Field.{InField, no_minima}
+use Rattle.sl_law_meaning.specs.methods.Allocations.{IsDivisorAllocation}
+use Rattle.sl_law_meaning.specs.methods.Hamilton.{whole, remainder, is_leading, IsHamiltonAllocation}
+use Rattle.sl_law_meaning.proofs.methods.SeatSums.{entry_le_sum, none_needed}
+use Rattle.sl_law_meaning.proofs.methods.DivisorProofs.{in_range}
+use Rattle.sl_law_meaning.proofs.methods.HamiltonProofs.{at_map, zero_div}
 use Rattle.sl_law_fairness.specs.Quota.{raised_whole, JeffersonLowerQuota, AdamsUpperQuota, HamiltonInQuota}
 use Rattle.sl_law_fairness.proofs.Chains.{in_field}
-use Rattle.sl_stages.proofs.methods.HamiltonProofs.{sum_times, whole_low}
+use Rattle.sl_law_meaning.proofs.methods.HamiltonProofs.{sum_times, whole_low}
 use Rattle.sl_law_fairness.proofs.Sums.{sum_gap, whole_greatest, times_none}
 
 -- inequalities of products entry by entry, summed, with a gap at i

@@ -9,12 +9,12 @@ use Rattle.std.proofs.lemmas.List.{length-map, ext_get_or}
 use Rattle.std.proofs.lemmas.List.FromFn.{length-map-range_with_len, get_or-map-range_with_len}
 use Rattle.std.proofs.lemmas.List.Sums.{sum-map}
 use Rattle.std.proofs.lemmas.List.Sorted.{sum_by-IsPermutation}
-use Rattle.sl_ratio.specs.declared.method.Divisor.{Divisor}
-use Rattle.sl_ratio.specs.declared.method.Divisor.TheVariants.{Adams, Dean, Hill, Webster, Jefferson}
-use Rattle.sl_ratio.specs.Quotient.{AtMost, quotient}
-use Rattle.sl_stages.specs.methods.Field.{InField}
-use Rattle.sl_stages.specs.methods.Allocations.{IsDivisorAllocation}
-use Rattle.sl_stages.proofs.methods.HamiltonProofs.{at_map}
+use Rattle.sl_base_quotients.specs.declared.method.Divisor.{Divisor}
+use Rattle.sl_base_quotients.specs.declared.method.Divisor.TheVariants.{Adams, Dean, Hill, Webster, Jefferson}
+use Rattle.sl_base_quotients.specs.Quotient.{AtMost, quotient}
+use Rattle.sl_law_meaning.specs.methods.Field.{InField}
+use Rattle.sl_law_meaning.specs.methods.Allocations.{IsDivisorAllocation}
+use Rattle.sl_law_meaning.proofs.methods.HamiltonProofs.{at_map}
 use Rattle.sl_law_fairness.specs.Parts.{part}
 use Rattle.sl_law_fairness.specs.Principles.{Homogeneous, Anonymous}
 use Rattle.sl_law_fairness.proofs.Parts.{coherent}

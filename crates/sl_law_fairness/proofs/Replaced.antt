@@ -5,16 +5,16 @@ use Rattle.std.proofs.Math.ListN.{length-set}
 use Rattle.std.proofs.lemmas.Bool.{cases_lt, cases_eq}
 use Rattle.std.proofs.lemmas.List.{get_or-set_same, get_or-set_other}
 use Rattle.std.proofs.lemmas.List.Sums.{sum_by-set}
-use Rattle.sl_ratio.specs.declared.method.Divisor.{Divisor}
-use Rattle.sl_ratio.specs.Quotient.{AtMost, quotient}
-use Rattle.sl_ratio.specs.inner.QuotientLaws.{quotient_positive}
-use Rattle.sl_ratio.proofs.Order.{AtMost-trans}
-use Rattle.sl_stages.specs.methods.Field.{InField}
-use Rattle.sl_stages.specs.methods.Allocations.{IsDivisorAllocation}
-use Rattle.sl_stages.specs.methods.Ties.{Distinct}
-use Rattle.sl_stages.proofs.methods.SeatSums.{sum-cons, some_greater}
-use Rattle.sl_stages.proofs.methods.RaisedSeats.{Contains-head, Contains-tail, Contains-cases, Contains-none, cases_Contains}
-use Rattle.sl_stages.proofs.methods.TieLaw.{equal_lists, below_length}
+use Rattle.sl_base_quotients.specs.declared.method.Divisor.{Divisor}
+use Rattle.sl_base_quotients.specs.Quotient.{AtMost, quotient}
+use Rattle.sl_base_quotients.specs.inner.QuotientLaws.{quotient_positive}
+use Rattle.sl_base_quotients.proofs.Order.{AtMost-trans}
+use Rattle.sl_law_meaning.specs.methods.Field.{InField}
+use Rattle.sl_law_meaning.specs.methods.Allocations.{IsDivisorAllocation}
+use Rattle.sl_law_meaning.specs.methods.Ties.{Distinct}
+use Rattle.sl_law_meaning.proofs.methods.SeatSums.{sum-cons, some_greater}
+use Rattle.sl_law_meaning.proofs.methods.RaisedSeats.{Contains-head, Contains-tail, Contains-cases, Contains-none, cases_Contains}
+use Rattle.sl_law_meaning.proofs.methods.TieLaw.{equal_lists, below_length}
 use Rattle.sl_law_fairness.specs.Parts.{part, IsPutIn, PartsReplaced}
 use Rattle.sl_law_fairness.proofs.Chains.{falls_weak, in_field}
 use Rattle.sl_law_fairness.proofs.Parts.{part_at, within, coherent}

@@ -6,19 +6,19 @@ use Rattle.std.proofs.lemmas.Bool.{false≢true}
 use Rattle.std.proofs.lemmas.Option.{none-some, same_Some}
 use Rattle.sl_base_terms.specs.declared.shape.Shape.{Shape}
 use Rattle.sl_base_terms.specs.declared.shape.Shape.TheVariants as shape
-use Rattle.sl_stages.specs.declared.fault.FaultKind.TheVariants as fault
-use Rattle.sl_stages.specs.declared.fault.Item.{Item}
-use Rattle.sl_stages.specs.declared.fault.Item.TheVariants as item
-use Rattle.sl_stages.specs.declared.fault.LegalFault.{LegalFault}
-use Rattle.sl_stages.specs.returns.Election.{Election, lands_of, parties_of, has_list}
-use Rattle.sl_stages.specs.returns.Facts.{lands, parties}
-use Rattle.sl_stages.specs.book.Typing.{can_split}
-use Rattle.sl_stages.specs.meaning.Records.{Records}
-use Rattle.sl_stages.specs.meaning.Results.{Column, Fault, Stand, fault_at, fault_of, first_over, AreJoined, IsShared}
-use Rattle.sl_stages.specs.meaning.Scopes.{Group, place, cells, scopes, entries_of, lists_in_land, lists_of_party, told_of, pair_column}
-use Rattle.sl_stages.specs.meaning.Splits.{Award, Seats, Refused, awarded}
-use Rattle.sl_stages.proofs.meaning.AwardedEntries.{every_at, told_entry, scope_entries_differ, party_cell, land_cell, pair_cell}
-use Rattle.sl_stages.proofs.meaning.DistinctLists.{every_weaker, every_map, every_filter, every_pieces}
+use Rattle.sl_law_meaning.specs.declared.fault.FaultKind.TheVariants as fault
+use Rattle.sl_law_meaning.specs.declared.fault.Item.{Item}
+use Rattle.sl_law_meaning.specs.declared.fault.Item.TheVariants as item
+use Rattle.sl_law_meaning.specs.declared.fault.LegalFault.{LegalFault}
+use Rattle.sl_law_meaning.specs.returns.Election.{Election, lands_of, parties_of, has_list}
+use Rattle.sl_law_meaning.specs.returns.Facts.{lands, parties}
+use Rattle.sl_law_meaning.specs.book.Typing.{can_split}
+use Rattle.sl_law_meaning.specs.meaning.Records.{Records}
+use Rattle.sl_law_meaning.specs.meaning.Results.{Column, Fault, Stand, fault_at, fault_of, first_over, AreJoined, IsShared}
+use Rattle.sl_law_meaning.specs.meaning.Scopes.{Group, place, cells, scopes, entries_of, lists_in_land, lists_of_party, told_of, pair_column}
+use Rattle.sl_law_meaning.specs.meaning.Splits.{Award, Seats, Refused, awarded}
+use Rattle.sl_law_meaning.proofs.meaning.AwardedEntries.{every_at, told_entry, scope_entries_differ, party_cell, land_cell, pair_cell}
+use Rattle.sl_law_meaning.proofs.meaning.DistinctLists.{every_weaker, every_map, every_filter, every_pieces}
 use Rattle.sl_law_fairness.proofs.ListColumns.{below}
 
 -- ---- at an entry's place stands what the pairs say of it

@@ -3,8 +3,8 @@ use Rattle.std.proofs.Common.{◌≡◌, ℕ, zero, suc, ◌+◌, ◌*◌, ◌/�
 use Rattle.std.proofs.lemmas.Bool.{cases_lt, cases_eq}
 use Rattle.std.proofs.lemmas.List.{get_or-set_same, get_or-set_other}
 use Rattle.std.proofs.lemmas.List.Sums.{sum_by-set}
-use Rattle.sl_stages.proofs.methods.SeatSums.{sum_mono}
-use Rattle.sl_stages.proofs.methods.HamiltonProofs.{whole_high}
+use Rattle.sl_law_meaning.proofs.methods.SeatSums.{sum_mono}
+use Rattle.sl_law_meaning.proofs.methods.HamiltonProofs.{whole_high}
 
 -- the whole part is the greatest number that is not above the share
 pub whole_greatest : (n d k : ℕ) → 0 < d → d * k ≤ n → k ≤ n / d

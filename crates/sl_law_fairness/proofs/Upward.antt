@@ -1,9 +1,9 @@
 -- A house larger than one that meets each minimum does too: an entry with fewer seats there is tied, one above and at its minimum.
 use Rattle.std.proofs.Common.{get_or, inl, inr, arith}
 use Rattle.std.proofs.lemmas.Bool.{cases_lt}
-use Rattle.sl_stages.specs.methods.LeastHouse.{outside_minima}
-use Rattle.sl_stages.proofs.methods.DivisorProofs.{divisor_allocations}
-use Rattle.sl_stages.proofs.methods.HouseProofs.{length-outside}
+use Rattle.sl_law_meaning.specs.methods.LeastHouse.{outside_minima}
+use Rattle.sl_law_meaning.proofs.methods.DivisorProofs.{divisor_allocations}
+use Rattle.sl_law_meaning.proofs.methods.HouseProofs.{length-outside}
 use Rattle.sl_law_fairness.specs.Growths.{LargerHouseMeets}
 use Rattle.sl_law_fairness.proofs.Larger.{larger_house}
 

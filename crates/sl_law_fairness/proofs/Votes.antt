@@ -1,14 +1,14 @@
 -- Allocations and votes: chains of quotients between two allocations.
 use Rattle.std.proofs.Common.{◌≡◌, ℕ, zero, suc, ◌-◌, ◌*◌, ◌<◌, ◌≤◌, List, get_or, inl, inr, arith, refl, sym, ◌∙◌, subst}
 use Rattle.std.proofs.lemmas.Bool.{cases_lt, cases_eq}
-use Rattle.sl_ratio.specs.declared.method.Divisor.{Divisor}
-use Rattle.sl_ratio.specs.declared.method.Divisor.TheVariants.{Adams, Dean, Hill, Webster, Jefferson}
-use Rattle.sl_ratio.specs.Quotient.{AtMost, Below, quotient}
-use Rattle.sl_ratio.specs.inner.QuotientLaws.{quotient_positive, quotient_rises}
-use Rattle.sl_ratio.proofs.Order.{AtMost-trans}
-use Rattle.sl_stages.specs.methods.Field.{InField}
-use Rattle.sl_stages.specs.methods.Allocations.{IsDivisorAllocation}
-use Rattle.sl_stages.proofs.methods.SeatSums.{some_greater, sum_mono_strict}
+use Rattle.sl_base_quotients.specs.declared.method.Divisor.{Divisor}
+use Rattle.sl_base_quotients.specs.declared.method.Divisor.TheVariants.{Adams, Dean, Hill, Webster, Jefferson}
+use Rattle.sl_base_quotients.specs.Quotient.{AtMost, Below, quotient}
+use Rattle.sl_base_quotients.specs.inner.QuotientLaws.{quotient_positive, quotient_rises}
+use Rattle.sl_base_quotients.proofs.Order.{AtMost-trans}
+use Rattle.sl_law_meaning.specs.methods.Field.{InField}
+use Rattle.sl_law_meaning.specs.methods.Allocations.{IsDivisorAllocation}
+use Rattle.sl_law_meaning.proofs.methods.SeatSums.{some_greater, sum_mono_strict}
 use Rattle.sl_law_fairness.specs.Votes.{VotesMonotone, VotesOrdered, SameField, AreFirstSeats, FirstSeatsByLot}
 use Rattle.sl_law_fairness.proofs.Chains.{falls_weak, same_den, in_field}
 use Rattle.sl_law_fairness.proofs.RelativeVotes.{absolutely_monotone}

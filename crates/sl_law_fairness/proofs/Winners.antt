@@ -3,23 +3,23 @@ use Rattle.std.proofs.Common.{◌≡◌, ℕ, zero, suc, ◌+◌, ◌-◌, ◌<�
 use Rattle.std.specs.Prelude.{if◌then◌else◌, slice_get}
 use Rattle.std.specs.List.{AllZip}
 use Rattle.std.proofs.lemmas.Bool.{cases_Bool, cond-true, cond-false}
-use Rattle.sl_stages.specs.declared.book.Seating.{Seating}
-use Rattle.sl_stages.specs.declared.book.Seating.TheVariants as seating
-use Rattle.sl_stages.specs.declared.returns.Win.{Win}
-use Rattle.sl_stages.specs.declared.table.ListSeats.{ListSeats}
-use Rattle.sl_stages.specs.declared.table.Outcome.TheVariants as outcome
-use Rattle.sl_stages.specs.declared.table.Placed.{Placed}
-use Rattle.sl_stages.specs.declared.table.Placed.TheVariants as placed
-use Rattle.sl_stages.specs.book.Trees.{BookTree}
-use Rattle.sl_stages.specs.returns.Election.{Election}
-use Rattle.sl_stages.specs.returns.Facts.{lists_of, is_on_list}
-use Rattle.sl_stages.specs.meaning.Records.{Records}
-use Rattle.sl_stages.specs.meaning.Seating.{kept_place, kept_seats, table_line, keep_table}
-use Rattle.sl_stages.specs.meaning.Tables.{SeatTable}
-use Rattle.sl_stages.specs.meaning.Means.{IsSeated}
-use Rattle.sl_stages.specs.laws.MeaningLaws.{IsListOf}
-use Rattle.sl_stages.proofs.meaning.DistinctLists.{every_weaker}
-use Rattle.sl_stages.proofs.meaning.PlacedWinners.{count_agree, kept_winners}
+use Rattle.sl_law_meaning.specs.declared.book.Seating.{Seating}
+use Rattle.sl_law_meaning.specs.declared.book.Seating.TheVariants as seating
+use Rattle.sl_law_meaning.specs.declared.election.Win.{Win}
+use Rattle.sl_law_meaning.specs.declared.table.ListSeats.{ListSeats}
+use Rattle.sl_law_meaning.specs.declared.table.Outcome.TheVariants as outcome
+use Rattle.sl_law_meaning.specs.declared.table.Placed.{Placed}
+use Rattle.sl_law_meaning.specs.declared.table.Placed.TheVariants as placed
+use Rattle.sl_law_meaning.specs.book.Trees.{BookTree}
+use Rattle.sl_law_meaning.specs.returns.Election.{Election}
+use Rattle.sl_law_meaning.specs.returns.Facts.{lists_of, is_on_list}
+use Rattle.sl_law_meaning.specs.meaning.Records.{Records}
+use Rattle.sl_law_meaning.specs.meaning.Seating.{kept_place, kept_seats, table_line, keep_table}
+use Rattle.sl_law_meaning.specs.meaning.Tables.{SeatTable}
+use Rattle.sl_law_meaning.specs.meaning.Means.{IsSeated}
+use Rattle.sl_law_meaning.specs.laws.MeaningLaws.{IsListOf}
+use Rattle.sl_law_meaning.proofs.meaning.DistinctLists.{every_weaker}
+use Rattle.sl_law_meaning.proofs.meaning.PlacedWinners.{count_agree, kept_winners}
 use Rattle.sl_law_fairness.specs.Winners.{base_seats, winners_on, is_single, IsLine, KeepSeatsAll, KeepTotal}
 use Rattle.sl_law_fairness.proofs.ListColumns.{sum_mapped, sum_larger, zip_map, each_is_map, are_lists}
 use Rattle.sl_law_fairness.proofs.Bases.{end_of, same_table, one_base, sum_of_base}

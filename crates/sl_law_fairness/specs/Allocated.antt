@@ -1,21 +1,21 @@
 -- In each scope a split and a growth give an allocation by the method, by the meaning of a rulebook (docs/meaning.md, section 6).
 -- Each law is the contract of a function of `laws::books`.
 use Rattle.std.specs.Prelude.{◌≡◌, ℕ, true, List, Contains, slice_index}
-use Rattle.sl_ratio.specs.declared.method.Divisor.{Divisor}
-use Rattle.sl_ratio.specs.declared.method.Method.{Method}
-use Rattle.sl_ratio.specs.declared.method.Method.TheVariants as by
-use Rattle.sl_stages.specs.declared.book.Majority.{Majority}
-use Rattle.sl_stages.specs.declared.book.Number.{Number}
+use Rattle.sl_base_quotients.specs.declared.method.Divisor.{Divisor}
+use Rattle.sl_base_quotients.specs.declared.method.Method.{Method}
+use Rattle.sl_base_quotients.specs.declared.method.Method.TheVariants as by
+use Rattle.sl_law_meaning.specs.declared.book.Majority.{Majority}
+use Rattle.sl_law_meaning.specs.declared.book.Number.{Number}
 use Rattle.sl_base_terms.specs.declared.shape.Shape.TheVariants as shape
-use Rattle.sl_stages.specs.book.Trees.{ExprTree, split, grow, without, atleast, BookTree}
-use Rattle.sl_stages.specs.book.Typing.{can_split}
-use Rattle.sl_stages.specs.returns.Election.{Election}
-use Rattle.sl_stages.specs.methods.Field.{no_minima}
-use Rattle.sl_stages.specs.methods.Allocations.{IsDivisorAllocation}
-use Rattle.sl_stages.specs.methods.LeastHouse.{GrownTo, IsGrowth, IsGrownAllocation}
-use Rattle.sl_stages.specs.meaning.Scopes.{Group, cells, scopes}
-use Rattle.sl_stages.specs.meaning.Splits.{IsAllocation}
-use Rattle.sl_stages.specs.meaning.Expressions.{Context, shape_in}
+use Rattle.sl_law_meaning.specs.book.Trees.{ExprTree, split, grow, without, atleast, BookTree}
+use Rattle.sl_law_meaning.specs.book.Typing.{can_split}
+use Rattle.sl_law_meaning.specs.returns.Election.{Election}
+use Rattle.sl_law_meaning.specs.methods.Field.{no_minima}
+use Rattle.sl_law_meaning.specs.methods.Allocations.{IsDivisorAllocation}
+use Rattle.sl_law_meaning.specs.methods.LeastHouse.{GrownTo, IsGrowth, IsGrownAllocation}
+use Rattle.sl_law_meaning.specs.meaning.Scopes.{Group, cells, scopes}
+use Rattle.sl_law_meaning.specs.meaning.Splits.{IsAllocation}
+use Rattle.sl_law_meaning.specs.meaning.Expressions.{Context, shape_in}
 use Rattle.sl_law_fairness.specs.Amounts.{ComesToColumn, sum_in}
 
 -- a split without minima gives in each scope an allocation of the scope's amount by the votes of its entries

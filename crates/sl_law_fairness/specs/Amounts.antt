@@ -1,19 +1,19 @@
 -- What splits and growths distribute, scope by scope, by the meaning of a rulebook (docs/meaning.md, section 6).
 -- Each law is the contract of a function of `laws::books`.
 use Rattle.std.specs.Prelude.{◌≡◌, ℕ, ◌*◌, ◌<◌, ◌≤◌, true, List, Contains, sum, slice_index}
-use Rattle.sl_ratio.specs.declared.method.Method.{Method}
-use Rattle.sl_stages.specs.declared.book.Majority.{Majority}
-use Rattle.sl_stages.specs.declared.book.Majority.TheVariants as majority
-use Rattle.sl_stages.specs.declared.book.Number.{Number}
+use Rattle.sl_base_quotients.specs.declared.method.Method.{Method}
+use Rattle.sl_law_meaning.specs.declared.book.Majority.{Majority}
+use Rattle.sl_law_meaning.specs.declared.book.Majority.TheVariants as majority
+use Rattle.sl_law_meaning.specs.declared.book.Number.{Number}
 use Rattle.sl_base_terms.specs.declared.shape.Shape.TheVariants as shape
-use Rattle.sl_stages.specs.declared.fault.Item.{Item}
-use Rattle.sl_stages.specs.book.Trees.{ExprTree, split, grow, MinimaTree, BookTree}
-use Rattle.sl_stages.specs.book.Typing.{can_split}
-use Rattle.sl_stages.specs.returns.Election.{Election}
-use Rattle.sl_stages.specs.meaning.Records.{Records}
-use Rattle.sl_stages.specs.meaning.Results.{Column}
-use Rattle.sl_stages.specs.meaning.Scopes.{Group, place, cells, scopes}
-use Rattle.sl_stages.specs.meaning.Expressions.{Context, shape_in, ExprMeans}
+use Rattle.sl_law_meaning.specs.declared.fault.Item.{Item}
+use Rattle.sl_law_meaning.specs.book.Trees.{ExprTree, split, grow, MinimaTree, BookTree}
+use Rattle.sl_law_meaning.specs.book.Typing.{can_split}
+use Rattle.sl_law_meaning.specs.returns.Election.{Election}
+use Rattle.sl_law_meaning.specs.meaning.Records.{Records}
+use Rattle.sl_law_meaning.specs.meaning.Results.{Column}
+use Rattle.sl_law_meaning.specs.meaning.Scopes.{Group, place, cells, scopes}
+use Rattle.sl_law_meaning.specs.meaning.Expressions.{Context, shape_in, ExprMeans}
 
 -- the expression yields a column, whatever the records of its seats
 abbrev pub ComesToColumn : BookTree → Election → Context → ExprTree → List ℕ → Type 0

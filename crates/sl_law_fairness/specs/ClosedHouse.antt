@@ -1,9 +1,9 @@
 -- The house that Webster's method grows to, in closed form: by the divisor with which an entry has just its minimum.
 -- Each law is the contract of a function of `laws`.
 use Rattle.std.specs.Prelude.{◌≡◌, ◌↔◌, ◌⊎◌, ℕ, ◌+◌, ◌-◌, ◌*◌, ◌/◌, ◌<◌, ◌≤◌, List, map, max, sum, slice_index}
-use Rattle.sl_ratio.specs.declared.method.Divisor.TheVariants.{Webster}
-use Rattle.sl_stages.specs.methods.Field.{InField, IsEmptyField}
-use Rattle.sl_stages.specs.methods.LeastHouse.{outside_sum, GrownTo, IsGrowth}
+use Rattle.sl_base_quotients.specs.declared.method.Divisor.TheVariants.{Webster}
+use Rattle.sl_law_meaning.specs.methods.Field.{InField, IsEmptyField}
+use Rattle.sl_law_meaning.specs.methods.LeastHouse.{outside_sum, GrownTo, IsGrowth}
 use Rattle.sl_law_fairness.specs.NearQuota.{in_field}
 
 -- all votes divided by v_q / (m_q - 1/2) and rounded to the nearest number, a half up: the least seats with which q has its minimum surely

@@ -1,10 +1,10 @@
 -- Houses grown until every allocation meets the minima (docs/methods.md, section 5).
 -- Each law is the contract of a function of `laws`.
 use Rattle.std.specs.Prelude.{◌≡◌, ℕ, ◌≤◌, List, All, length, sum, slice_index}
-use Rattle.sl_ratio.specs.declared.method.Divisor.{Divisor}
-use Rattle.sl_stages.specs.methods.Field.{InField, IsEmptyField, no_minima}
-use Rattle.sl_stages.specs.methods.Allocations.{IsDivisorAllocation}
-use Rattle.sl_stages.specs.methods.LeastHouse.{outside_sum, GrownTo, IsGrowth, IsGrownAllocation}
+use Rattle.sl_base_quotients.specs.declared.method.Divisor.{Divisor}
+use Rattle.sl_law_meaning.specs.methods.Field.{InField, IsEmptyField, no_minima}
+use Rattle.sl_law_meaning.specs.methods.Allocations.{IsDivisorAllocation}
+use Rattle.sl_law_meaning.specs.methods.LeastHouse.{outside_sum, GrownTo, IsGrowth, IsGrownAllocation}
 use Rattle.sl_law_fairness.specs.Parts.{part}
 
 -- every allocation of the house meets each minimum, in the field and outside it

@@ -1,7 +1,7 @@
 -- What Hamilton's method keeps: what holds where no other entry changes, within an allocation, and by the sum of the deviations.
 -- Each law is the contract of a function of `laws`.
 use Rattle.std.specs.Prelude.{◌≡◌, ◌≢◌, ℕ, ◌+◌, ◌-◌, ◌*◌, ◌<◌, ◌≤◌, Bool, false, List, [], ◌∷◌, length, sum, slice_index}
-use Rattle.sl_stages.specs.methods.Hamilton.{IsHamiltonAllocation}
+use Rattle.sl_law_meaning.specs.methods.Hamilton.{IsHamiltonAllocation}
 
 -- i gained votes and the others have what they had: it has no fewer seats, with preference for a majority or without
 abbrev pub HamiltonVotes : Type 0

@@ -1,11 +1,11 @@
 -- How divisor allocations answer to a larger house (Balinski and Young, Fair Representation, appendix A).
 -- Each law is the contract of a function of `laws`.
 use Rattle.std.specs.Prelude.{◌≡◌, ℕ, ◌+◌, ◌<◌, ◌≤◌, List, [], ◌∷◌, slice_index}
-use Rattle.sl_ratio.specs.declared.method.Divisor.{Divisor}
-use Rattle.sl_stages.specs.methods.Field.{InField}
-use Rattle.sl_stages.specs.methods.Allocations.{IsDivisorAllocation}
-use Rattle.sl_stages.specs.methods.Ties.{IsTied}
-use Rattle.sl_stages.specs.laws.Ladders.{RaisesEach}
+use Rattle.sl_base_quotients.specs.declared.method.Divisor.{Divisor}
+use Rattle.sl_law_meaning.specs.methods.Field.{InField}
+use Rattle.sl_law_meaning.specs.methods.Allocations.{IsDivisorAllocation}
+use Rattle.sl_law_meaning.specs.methods.Ties.{IsTied}
+use Rattle.sl_law_meaning.specs.laws.Ladders.{RaisesEach}
 
 -- with a field, each allocation becomes one of a seat more by one more seat for one entry
 abbrev pub HouseMonotone : Type 0

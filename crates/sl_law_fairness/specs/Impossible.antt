@@ -1,7 +1,7 @@
 -- No method has it all: within quota, ordered, and fair to votes that grow (Balinski and Young, Fair Representation, appendix A).
 -- Each law is the contract of a function of `laws`. A method is here any function that picks seats for votes and a house.
 use Rattle.std.specs.Prelude.{◌≡◌, ℕ, ◌*◌, ◌<◌, ◌≤◌, List, length, sum, slice_index, slice_set}
-use Rattle.sl_stages.specs.methods.Hamilton.{whole}
+use Rattle.sl_law_meaning.specs.methods.Hamilton.{whole}
 use Rattle.sl_law_fairness.specs.Quota.{raised_whole}
 
 -- where there are votes, it distributes the seats, and each entry has its share rounded down or up

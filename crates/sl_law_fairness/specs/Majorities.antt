@@ -1,10 +1,10 @@
 -- What more than half of the votes gives (Balinski and Young, Fair Representation, appendix A).
 -- Each law is the contract of a function of `laws`.
 use Rattle.std.specs.Prelude.{ℕ, ◌*◌, ◌<◌, ◌≤◌, true, List, sum, slice_index}
-use Rattle.sl_ratio.specs.declared.method.Divisor.TheVariants.{Jefferson}
-use Rattle.sl_stages.specs.methods.Field.{no_minima}
-use Rattle.sl_stages.specs.methods.Allocations.{IsDivisorAllocation}
-use Rattle.sl_stages.specs.methods.Hamilton.{IsHamiltonAllocation}
+use Rattle.sl_base_quotients.specs.declared.method.Divisor.TheVariants.{Jefferson}
+use Rattle.sl_law_meaning.specs.methods.Field.{no_minima}
+use Rattle.sl_law_meaning.specs.methods.Allocations.{IsDivisorAllocation}
+use Rattle.sl_law_meaning.specs.methods.Hamilton.{IsHamiltonAllocation}
 
 -- more than half of the votes has at least half of the seats, so more than half of an odd house
 abbrev pub JeffersonMajority : Type 0

@@ -1,8 +1,8 @@
 -- Which entries a method favours (Balinski and Young, Fair Representation, appendix A). The law is the contract of a function of `laws`.
 use Rattle.std.specs.Prelude.{ℕ, ◌<◌, ◌≤◌, List, slice_index}
-use Rattle.sl_ratio.specs.declared.method.Divisor.{Divisor}
-use Rattle.sl_ratio.specs.Quotient.{method_number}
-use Rattle.sl_stages.specs.methods.Allocations.{IsDivisorAllocation}
+use Rattle.sl_base_quotients.specs.declared.method.Divisor.{Divisor}
+use Rattle.sl_base_quotients.specs.Quotient.{method_number}
+use Rattle.sl_law_meaning.specs.methods.Allocations.{IsDivisorAllocation}
 use Rattle.sl_law_fairness.specs.Votes.{IsFinite, next_of}
 
 -- in the order Adams, Dean, Hill, Webster, Jefferson a later method is no better for fewer votes: where they have more seats by it than by an

@@ -1,9 +1,9 @@
 -- What the allocations of Jefferson's, Adams's and Webster's methods are best at. Each law is the contract of a function of `laws`.
 use Rattle.std.specs.Prelude.{◌≡◌, ◌↔◌, ℕ, zero, suc, ◌+◌, ◌*◌, ◌≤◌, List, [], ◌∷◌, length, sum, slice_index}
-use Rattle.sl_ratio.specs.declared.method.Divisor.TheVariants.{Adams, Webster, Jefferson}
-use Rattle.sl_ratio.specs.Quotient.{Quotient, AtMost}
-use Rattle.sl_stages.specs.methods.Field.{InField, no_minima}
-use Rattle.sl_stages.specs.methods.Allocations.{IsDivisorAllocation}
+use Rattle.sl_base_quotients.specs.declared.method.Divisor.TheVariants.{Adams, Webster, Jefferson}
+use Rattle.sl_base_quotients.specs.Quotient.{Quotient, AtMost}
+use Rattle.sl_law_meaning.specs.methods.Field.{InField, no_minima}
+use Rattle.sl_law_meaning.specs.methods.Allocations.{IsDivisorAllocation}
 use Rattle.sl_law_fairness.specs.Hamilton.{apart}
 
 -- the seats are distributed, and none to an entry without votes

@@ -1,9 +1,9 @@
 -- Parts of divisor allocations: the coherence, or uniformity, of Balinski and Young (Fair Representation, appendix A).
 -- Each law is the contract of a function of `laws`.
 use Rattle.std.specs.Prelude.{◌≡◌, ℕ, List, length, map, sum, slice_index, Contains}
-use Rattle.sl_ratio.specs.declared.method.Divisor.{Divisor}
-use Rattle.sl_stages.specs.methods.Allocations.{IsDivisorAllocation}
-use Rattle.sl_stages.specs.methods.Ties.{Distinct}
+use Rattle.sl_base_quotients.specs.declared.method.Divisor.{Divisor}
+use Rattle.sl_law_meaning.specs.methods.Allocations.{IsDivisorAllocation}
+use Rattle.sl_law_meaning.specs.methods.Ties.{Distinct}
 
 -- what some entries have, in the order in which they are named
 abbrev pub part : List ℕ → List ℕ → List ℕ

@@ -2,10 +2,10 @@
 -- `laws`.
 use Rattle.std.specs.Prelude.{◌≡◌, ◌↔◌, ℕ, ◌+◌, ◌*◌, ◌<◌, ◌≤◌, Bool, List, IsPermutation, length, map, sum, slice_index}
 use Rattle.std.specs.List.{range_with_len}
-use Rattle.sl_ratio.specs.declared.method.Divisor.{Divisor}
-use Rattle.sl_stages.specs.methods.Field.{no_minima}
-use Rattle.sl_stages.specs.methods.Allocations.{IsDivisorAllocation}
-use Rattle.sl_stages.specs.methods.Hamilton.{IsHamiltonAllocation}
+use Rattle.sl_base_quotients.specs.declared.method.Divisor.{Divisor}
+use Rattle.sl_law_meaning.specs.methods.Field.{no_minima}
+use Rattle.sl_law_meaning.specs.methods.Allocations.{IsDivisorAllocation}
+use Rattle.sl_law_meaning.specs.methods.Hamilton.{IsHamiltonAllocation}
 use Rattle.sl_law_fairness.specs.Parts.{part}
 
 -- equal votes and equal minima have seats that are at most one apart

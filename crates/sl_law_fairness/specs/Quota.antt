@@ -1,10 +1,10 @@
 -- Which methods stay within quota: the share of an entry, rounded down or up (Balinski and Young, Fair Representation, appendix A).
 -- Each law is the contract of a function of `laws`.
 use Rattle.std.specs.Prelude.{ℕ, ◌+◌, ◌-◌, ◌*◌, ◌/◌, ◌≤◌, Bool, List, sum, slice_index}
-use Rattle.sl_ratio.specs.declared.method.Divisor.TheVariants.{Adams, Jefferson}
-use Rattle.sl_stages.specs.methods.Field.{no_minima}
-use Rattle.sl_stages.specs.methods.Allocations.{IsDivisorAllocation}
-use Rattle.sl_stages.specs.methods.Hamilton.{whole, IsHamiltonAllocation}
+use Rattle.sl_base_quotients.specs.declared.method.Divisor.TheVariants.{Adams, Jefferson}
+use Rattle.sl_law_meaning.specs.methods.Field.{no_minima}
+use Rattle.sl_law_meaning.specs.methods.Allocations.{IsDivisorAllocation}
+use Rattle.sl_law_meaning.specs.methods.Hamilton.{whole, IsHamiltonAllocation}
 
 -- the share S * v / V rounded up (`whole` rounds it down)
 abbrev pub raised_whole : List ℕ → ℕ → ℕ → ℕ

@@ -2,20 +2,20 @@
 -- Each law is the contract of a function of `laws::books`.
 use Rattle.std.specs.Prelude.{◌≡◌, ◌≢◌, ◌⊎◌, ℕ, ◌+◌, ◌-◌, ◌*◌, ◌<◌, ◌≤◌, Bool, true, false, not, List, Some, None, is_none, max, min, sum, sum_by, count_by, slice_get}
 use Rattle.std.specs.List.{AllZip}
-use Rattle.sl_stages.specs.declared.book.Seating.TheVariants as seating
-use Rattle.sl_stages.specs.declared.returns.Win.{Win}
-use Rattle.sl_stages.specs.declared.table.ListSeats.{ListSeats}
-use Rattle.sl_stages.specs.declared.table.Outcome.TheVariants as outcome
-use Rattle.sl_stages.specs.declared.table.Placed.{Placed}
-use Rattle.sl_stages.specs.declared.table.Placed.TheVariants as placed
-use Rattle.sl_stages.specs.book.Trees.{BookTree}
-use Rattle.sl_stages.specs.book.Typing.{is_typed}
-use Rattle.sl_stages.specs.returns.Election.{Election, IsElection, wins_of}
-use Rattle.sl_stages.specs.returns.Facts.{lists_of, list_cell, list_winners, is_on_list}
-use Rattle.sl_stages.specs.meaning.Columns.{IsLeaf}
-use Rattle.sl_stages.specs.meaning.Seating.{base_of}
-use Rattle.sl_stages.specs.meaning.Tables.{SeatTable}
-use Rattle.sl_stages.specs.meaning.Means.{Known, Through, nothing_known, StagesMean, Means}
+use Rattle.sl_law_meaning.specs.declared.book.Seating.TheVariants as seating
+use Rattle.sl_law_meaning.specs.declared.election.Win.{Win}
+use Rattle.sl_law_meaning.specs.declared.table.ListSeats.{ListSeats}
+use Rattle.sl_law_meaning.specs.declared.table.Outcome.TheVariants as outcome
+use Rattle.sl_law_meaning.specs.declared.table.Placed.{Placed}
+use Rattle.sl_law_meaning.specs.declared.table.Placed.TheVariants as placed
+use Rattle.sl_law_meaning.specs.book.Trees.{BookTree}
+use Rattle.sl_law_meaning.specs.book.Typing.{is_typed}
+use Rattle.sl_law_meaning.specs.returns.Election.{Election, IsElection, wins_of}
+use Rattle.sl_law_meaning.specs.returns.Facts.{lists_of, list_cell, list_winners, is_on_list}
+use Rattle.sl_law_meaning.specs.meaning.Columns.{IsLeaf}
+use Rattle.sl_law_meaning.specs.meaning.Seating.{base_of}
+use Rattle.sl_law_meaning.specs.meaning.Tables.{SeatTable}
+use Rattle.sl_law_meaning.specs.meaning.Means.{Known, Through, nothing_known, StagesMean, Means}
 
 -- ---- the base and the total
 

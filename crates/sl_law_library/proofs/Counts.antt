@@ -1,10 +1,10 @@
 -- Votes missing are enough, more are, and the parties' scope is the count's.
 use Rattle.std.proofs.Common.{◌-◌, ◌<◌, length, arith, sym, subst}
-use Rattle.sl_ratio.specs.declared.method.Divisor.TheVariants.{Webster}
-use Rattle.sl_stages.specs.book.Trees.{BookTree}
-use Rattle.sl_stages.specs.methods.Field.{no_minima}
-use Rattle.sl_stages.proofs.methods.SeatSums.{length_zeros}
-use Rattle.sl_stages.specs.methods.Allocations.{IsDivisorAllocation}
+use Rattle.sl_base_quotients.specs.declared.method.Divisor.TheVariants.{Webster}
+use Rattle.sl_law_meaning.specs.book.Trees.{BookTree}
+use Rattle.sl_law_meaning.specs.methods.Field.{no_minima}
+use Rattle.sl_law_meaning.proofs.methods.SeatSums.{length_zeros}
+use Rattle.sl_law_meaning.specs.methods.Allocations.{IsDivisorAllocation}
 use Rattle.sl_law_fairness.specs.Winners.{independents}
 use Rattle.sl_law_margins.specs.MissingVotes.{IsAllocation, AreEnough, with_further}
 use Rattle.sl_law_margins.proofs.StayingEnough.{enough_stays_enough}

@@ -4,18 +4,18 @@ use Rattle.std.specs.Prelude.{replicate}
 use Rattle.std.specs.List.{AllByRecursion as Every}
 use Rattle.std.proofs.lemmas.Bool.{cases_lt, cases_eq, cond-true}
 use Rattle.std.proofs.lemmas.List.{length-set, get_or-set_same, get_or-set_other}
-use Rattle.sl_ratio.specs.declared.method.Divisor.TheVariants.{Webster}
-use Rattle.sl_stages.specs.declared.returns.ListVotes.{ListVotes}
-use Rattle.sl_stages.specs.declared.returns.Lot.{Lot}
-use Rattle.sl_stages.specs.declared.table.Outcome.TheVariants as outcome
-use Rattle.sl_stages.specs.meaning.Tables.{SeatTable}
-use Rattle.sl_stages.specs.meaning.Means.{Means}
-use Rattle.sl_stages.specs.book.Trees.{BookTree}
-use Rattle.sl_stages.specs.returns.Votes.{counted_in}
-use Rattle.sl_stages.specs.returns.Election.{Election, parties_of, with_list, IsElection}
-use Rattle.sl_stages.specs.returns.Facts.{is_eligible}
-use Rattle.sl_stages.specs.methods.Field.{no_minima}
-use Rattle.sl_stages.specs.methods.Allocations.{IsDivisorAllocation}
+use Rattle.sl_base_quotients.specs.declared.method.Divisor.TheVariants.{Webster}
+use Rattle.sl_law_meaning.specs.declared.election.ListVotes.{ListVotes}
+use Rattle.sl_law_meaning.specs.declared.election.Lot.{Lot}
+use Rattle.sl_law_meaning.specs.declared.table.Outcome.TheVariants as outcome
+use Rattle.sl_law_meaning.specs.meaning.Tables.{SeatTable}
+use Rattle.sl_law_meaning.specs.meaning.Means.{Means}
+use Rattle.sl_law_meaning.specs.book.Trees.{BookTree}
+use Rattle.sl_law_meaning.specs.returns.Votes.{counted_in}
+use Rattle.sl_law_meaning.specs.returns.Election.{Election, parties_of, with_list, IsElection}
+use Rattle.sl_law_meaning.specs.returns.Facts.{is_eligible}
+use Rattle.sl_law_meaning.specs.methods.Field.{no_minima}
+use Rattle.sl_law_meaning.specs.methods.Allocations.{IsDivisorAllocation}
 use Rattle.sl_law_fairness.specs.Winners.{independents}
 use Rattle.sl_law_fairness.proofs.FewerVotes.{certain_against_fewer}
 use Rattle.sl_law_statutes.specs.Houses.{house_of}

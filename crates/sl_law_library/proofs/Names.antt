@@ -1,6 +1,6 @@
 -- The text after a name has one verdict, which is the tree of the statute.
 use Rattle.std.proofs.Common.{◌≡◌, ℕ, List, Option, arith, sym, subst, ◌∙◌}
-use Rattle.sl_stages.specs.book.Trees.{BookTree}
+use Rattle.sl_law_meaning.specs.book.Trees.{BookTree}
 use Rattle.sl_count_inputs.specs.declared.refusal.BookRefusal.{BookRefusal}
 use Rattle.sl_count_inputs.specs.declared.verdict.Verdict.{Verdict}
 use Rattle.sl_count_inputs.specs.declared.verdict.Verdict.TheVariants.{Good}

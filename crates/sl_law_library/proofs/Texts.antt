@@ -4,8 +4,8 @@ use Rattle.std.proofs.lemmas.List.Elements.{All-from_recursion}
 use Rattle.std.specs.Prelude.{codes}
 use Rattle.sl_lex.specs.declared.token.Token.{Token}
 use Rattle.sl_lex.proofs.OneCut.{one_list}
-use Rattle.sl_stages.specs.book.Trees.{BookTree}
-use Rattle.sl_stages.specs.book.Typing.{check_fault}
+use Rattle.sl_law_meaning.specs.book.Trees.{BookTree}
+use Rattle.sl_law_meaning.specs.book.Typing.{check_fault}
 use Rattle.sl_parse.specs.Grammar.{IsBook}
 use Rattle.sl_parse.specs.Parsing.{limits}
 use Rattle.sl_parse.specs.inner.Reading.{Read, taken, read_sum, read_two, read_pair, read_division, read_minima, read_majority, read_refusal, read_split, read_grow, read_form, read_node, no_room, read_expr, read_stage, read_stages, read_valid, read_winners, read_condition_at, read_condition, read_more, read_conditions, read_head, read_vacate, read_last, read_front, read_book}

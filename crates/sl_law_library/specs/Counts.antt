@@ -1,14 +1,14 @@
 -- Votes missing among the parties are enough in the whole count by the statutes of 2023 (docs/margins.md).
 use Rattle.std.specs.Prelude.{◌≡◌, ℕ, ◌+◌, ◌<◌, ◌≤◌, true, List, Some}
-use Rattle.sl_ratio.specs.declared.method.Divisor.TheVariants.{Webster}
-use Rattle.sl_stages.specs.declared.returns.ListVotes.{ListVotes}
-use Rattle.sl_stages.specs.declared.returns.Lot.{Lot}
-use Rattle.sl_stages.specs.declared.table.Outcome.TheVariants as outcome
-use Rattle.sl_stages.specs.book.Trees.{BookTree}
-use Rattle.sl_stages.specs.returns.Election.{Election, IsElection, with_list}
-use Rattle.sl_stages.specs.returns.Facts.{is_eligible}
-use Rattle.sl_stages.specs.meaning.Tables.{SeatTable}
-use Rattle.sl_stages.specs.meaning.Means.{Means}
+use Rattle.sl_base_quotients.specs.declared.method.Divisor.TheVariants.{Webster}
+use Rattle.sl_law_meaning.specs.declared.election.ListVotes.{ListVotes}
+use Rattle.sl_law_meaning.specs.declared.election.Lot.{Lot}
+use Rattle.sl_law_meaning.specs.declared.table.Outcome.TheVariants as outcome
+use Rattle.sl_law_meaning.specs.book.Trees.{BookTree}
+use Rattle.sl_law_meaning.specs.returns.Election.{Election, IsElection, with_list}
+use Rattle.sl_law_meaning.specs.returns.Facts.{is_eligible}
+use Rattle.sl_law_meaning.specs.meaning.Tables.{SeatTable}
+use Rattle.sl_law_meaning.specs.meaning.Means.{Means}
 use Rattle.sl_law_statutes.specs.Trees.{law_of_2023, law_of_2023_order}
 use Rattle.sl_law_statutes.specs.Parties.{party_column, party_seats, seats_column, IsGain}
 use Rattle.sl_law_margins.specs.MissingVotes.{AreMissing}

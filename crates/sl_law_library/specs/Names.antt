@@ -2,7 +2,7 @@
 use Rattle.std.specs.List.{All}
 use Rattle.std.specs.Prelude.{ℕ, List}
 use Rattle.sl_count_inputs.specs.declared.status.Status.{Status}
-use Rattle.sl_stages.specs.book.Trees.{BookTree}
+use Rattle.sl_law_meaning.specs.book.Trees.{BookTree}
 use Rattle.sl_count_inputs.specs.declared.verdict.Verdict.TheVariants.{Good}
 use Rattle.sl_count_inputs.specs.Books.{library, IsBookVerdict}
 use Rattle.sl_count_calls.specs.declared.report.Report.{Report}

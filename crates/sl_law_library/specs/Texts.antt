@@ -4,9 +4,9 @@ use Rattle.std.specs.Prelude.{◌≡◌, ℕ, ◌≤◌, List, [], Some, None, l
 use Rattle.sl_lex.specs.declared.token.Token.{Token}
 use Rattle.sl_lex.specs.Tokens.{AreTokens}
 use Rattle.sl_parse.specs.Grammar.{IsBook}
-use Rattle.sl_stages.specs.book.Trees.{BookTree}
-use Rattle.sl_stages.specs.book.Limits.{is_within_limits}
-use Rattle.sl_stages.specs.book.Typing.{check_fault}
+use Rattle.sl_law_meaning.specs.book.Trees.{BookTree}
+use Rattle.sl_law_meaning.specs.book.Limits.{is_within_limits}
+use Rattle.sl_law_meaning.specs.book.Typing.{check_fault}
 use Rattle.sl_laws.specs.Books.{books, law_text}
 use Rattle.sl_law_statutes.specs.Trees.{statutes}
 

@@ -4,13 +4,13 @@ use Rattle.std.specs.Prelude.{◌↔◌}
 use Rattle.std.proofs.Math.Nat.{div-mul-le_self, mul-le-mul_right, div-lt_iff_lt-mul}
 use Rattle.std.proofs.lemmas.Nat.{mul-le}
 use Rattle.std.proofs.lemmas.Bool.{cases_lt, false≢true}
-use Rattle.sl_ratio.specs.declared.limits.TheConstants.{MAX_SEATS}
-use Rattle.sl_ratio.specs.declared.method.Divisor.{Divisor}
-use Rattle.sl_ratio.specs.declared.method.Divisor.TheVariants.{Adams, Dean, Hill, Webster, Jefferson}
-use Rattle.sl_ratio.specs.Quotient.{Quotient, Below, quotient}
-use Rattle.sl_ratio.specs.Bounds.{IsRounding, last_quotient, next_quotient}
-use Rattle.sl_ratio.specs.inner.QuotientLaws.{quotient_positive}
-use Rattle.sl_ratio.proofs.Order.{AtMost-Below, Below-AtMost}
+use Rattle.sl_base_quotients.specs.declared.limits.TheConstants.{MAX_SEATS}
+use Rattle.sl_base_quotients.specs.declared.method.Divisor.{Divisor}
+use Rattle.sl_base_quotients.specs.declared.method.Divisor.TheVariants.{Adams, Dean, Hill, Webster, Jefferson}
+use Rattle.sl_base_quotients.specs.Quotient.{Quotient, Below, quotient}
+use Rattle.sl_base_quotients.specs.Bounds.{IsRounding, last_quotient, next_quotient}
+use Rattle.sl_base_quotients.specs.inner.QuotientLaws.{quotient_positive}
+use Rattle.sl_base_quotients.proofs.Order.{AtMost-Below, Below-AtMost}
 use Rattle.sl_law_margins.specs.Divisors.{as_quotient}
 use Rattle.sl_law_margins.specs.inner.Units.{units}
 use Rattle.sl_law_margins.specs.Laws.{DivisorsBetween}

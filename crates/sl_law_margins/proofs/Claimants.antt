@@ -8,17 +8,17 @@ use Rattle.std.proofs.Math.Seq.{get_or-append_seam}
 use Rattle.std.proofs.lemmas.Bool.{cases_lt, cases_eq, false≢true}
 use Rattle.std.proofs.lemmas.Bool.Decides.{nat_tests}
 use Rattle.std.proofs.lemmas.List.Elements.{Contains-append_left, Contains-push, Contains-push_cases, Contains-get_or}
-use Rattle.sl_ratio.specs.declared.method.Divisor.{Divisor}
-use Rattle.sl_ratio.specs.Quotient.{Quotient, AtMost, compare, quotient}
-use Rattle.sl_ratio.specs.Bounds.{HasWeight, IsLast, IsNext, last_quotient, next_quotient}
-use Rattle.sl_ratio.specs.inner.QuotientLaws.{quotient_positive}
-use Rattle.sl_ratio.proofs.Order.{AtMost-trans, AtMost-Below, Below-AtMost}
+use Rattle.sl_base_quotients.specs.declared.method.Divisor.{Divisor}
+use Rattle.sl_base_quotients.specs.Quotient.{Quotient, AtMost, compare, quotient}
+use Rattle.sl_base_quotients.specs.Bounds.{HasWeight, IsLast, IsNext, last_quotient, next_quotient}
+use Rattle.sl_base_quotients.specs.inner.QuotientLaws.{quotient_positive}
+use Rattle.sl_base_quotients.proofs.Order.{AtMost-trans, AtMost-Below, Below-AtMost}
 use Rattle.sl_ratio.proofs.Firsts.{Found, IsRanking, skipped}
 use Rattle.sl_ratio.proofs.Searches.{last_search, next_search}
-use Rattle.sl_stages.specs.methods.Ties.{Lists}
-use Rattle.sl_stages.proofs.methods.RaisedSeats.{Contains-none}
-use Rattle.sl_stages.proofs.methods.DivisorProofs.{in_range}
-use Rattle.sl_stages.proofs.methods.SeatSums.{none_needed}
+use Rattle.sl_law_meaning.specs.methods.Ties.{Lists}
+use Rattle.sl_law_meaning.proofs.methods.RaisedSeats.{Contains-none}
+use Rattle.sl_law_meaning.proofs.methods.DivisorProofs.{in_range}
+use Rattle.sl_law_meaning.proofs.methods.SeatSums.{none_needed}
 use Rattle.sl_law_margins.specs.MissingVotes.{IsAllocation}
 use Rattle.sl_law_margins.specs.inner.Claims.{IsLeastLast, IsGreatestNext, IsInField, IsFair}
 

@@ -1,12 +1,12 @@
 -- The divisor that is found between the claims, by the numbers of units from the lowest to the highest.
 use Rattle.std.proofs.Common.{◌≡◌, ℕ, zero, suc, ◌+◌, ◌-◌, ◌*◌, ◌^◌, ◌<◌, ◌≤◌, List, get_or, Option, Some, None, arith, refl, sym, ap, ◌∙◌, subst}
 use Rattle.std.proofs.lemmas.Nat.{mul-le}
-use Rattle.sl_ratio.specs.declared.method.Divisor.{Divisor}
-use Rattle.sl_ratio.specs.declared.method.Divisor.TheVariants.{Adams, Dean, Hill, Webster, Jefferson}
-use Rattle.sl_ratio.specs.Quotient.{Quotient, AtMost, SameQuotient, Below}
-use Rattle.sl_ratio.specs.Bounds.{HasWeight, last_quotient, next_quotient}
-use Rattle.sl_ratio.specs.inner.QuotientLaws.{quotient_positive}
-use Rattle.sl_ratio.proofs.Order.{AtMost-Below, Below-AtMost}
+use Rattle.sl_base_quotients.specs.declared.method.Divisor.{Divisor}
+use Rattle.sl_base_quotients.specs.declared.method.Divisor.TheVariants.{Adams, Dean, Hill, Webster, Jefferson}
+use Rattle.sl_base_quotients.specs.Quotient.{Quotient, AtMost, SameQuotient, Below}
+use Rattle.sl_base_quotients.specs.Bounds.{HasWeight, last_quotient, next_quotient}
+use Rattle.sl_base_quotients.specs.inner.QuotientLaws.{quotient_positive}
+use Rattle.sl_base_quotients.proofs.Order.{AtMost-Below, Below-AtMost}
 use Rattle.sl_law_margins.specs.Decimals.{Number, value_of, scaled, HasDigits}
 use Rattle.sl_law_margins.specs.Divisors.{as_quotient, Separates, IsShortest, unit_places, IsShortDivisor}
 use Rattle.sl_law_margins.specs.inner.Claims.{IsLeastLast, IsGreatestNext}

@@ -5,10 +5,10 @@ use Rattle.std.proofs.lemmas.List.{length-append, get_or_past}
 use Rattle.std.proofs.lemmas.List.Sums.{sum_by-append}
 use Rattle.std.proofs.Math.ListN.{get_or-append}
 use Rattle.std.proofs.Math.Seq.{get_or-append_seam}
-use Rattle.sl_ratio.specs.declared.method.Divisor.{Divisor}
-use Rattle.sl_ratio.specs.Quotient.{Quotient, AtMost, Below, quotient}
-use Rattle.sl_ratio.specs.Bounds.{HasWeight}
-use Rattle.sl_stages.proofs.methods.SeatSums.{sum-cons}
+use Rattle.sl_base_quotients.specs.declared.method.Divisor.{Divisor}
+use Rattle.sl_base_quotients.specs.Quotient.{Quotient, AtMost, Below, quotient}
+use Rattle.sl_base_quotients.specs.Bounds.{HasWeight}
+use Rattle.sl_law_meaning.proofs.methods.SeatSums.{sum-cons}
 use Rattle.sl_law_margins.specs.inner.Filled.{Reaches, Fills}
 use Rattle.sl_law_margins.proofs.Missing.{below_next}
 

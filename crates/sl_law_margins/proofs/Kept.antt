@@ -3,11 +3,11 @@ use Rattle.std.proofs.Common.{◌≡◌, ◌≢◌, ◌⊎◌, ℕ, zero, suc, �
 use Rattle.std.specs.Ordering.{nat_cmp, ord_max}
 use Rattle.std.proofs.lemmas.Bool.{cases_lt, cases_eq}
 use Rattle.std.proofs.lemmas.Bool.Decides.{nat_tests}
-use Rattle.sl_ratio.specs.declared.method.Divisor.{Divisor}
-use Rattle.sl_ratio.specs.Quotient.{Quotient, AtMost, quotient}
-use Rattle.sl_ratio.specs.Bounds.{HasWeight, next_quotient}
-use Rattle.sl_ratio.specs.inner.QuotientLaws.{quotient_positive}
-use Rattle.sl_ratio.proofs.Order.{Below-AtMost}
+use Rattle.sl_base_quotients.specs.declared.method.Divisor.{Divisor}
+use Rattle.sl_base_quotients.specs.Quotient.{Quotient, AtMost, quotient}
+use Rattle.sl_base_quotients.specs.Bounds.{HasWeight, next_quotient}
+use Rattle.sl_base_quotients.specs.inner.QuotientLaws.{quotient_positive}
+use Rattle.sl_base_quotients.proofs.Order.{Below-AtMost}
 use Rattle.sl_law_fairness.proofs.Chains.{rises_weak}
 use Rattle.sl_law_margins.specs.inner.Needed.{IsLeast, IsAbove}
 use Rattle.sl_law_margins.specs.inner.Kept.{Holds}

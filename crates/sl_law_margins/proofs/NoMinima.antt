@@ -1,9 +1,9 @@
 -- Lists of minima that read the same have the same allocations: none written, or 0 for each entry.
 use Rattle.std.proofs.Common.{◌≡◌, ℕ, List, [], length, Option, Some, None, get_or, sum, arith, sym, ◌∙◌}
-use Rattle.sl_ratio.specs.declared.method.Divisor.{Divisor}
-use Rattle.sl_stages.specs.methods.Field.{no_minima}
-use Rattle.sl_stages.specs.methods.Allocations.{IsDivisorAllocation}
-use Rattle.sl_stages.proofs.methods.SeatSums.{none_needed}
+use Rattle.sl_base_quotients.specs.declared.method.Divisor.{Divisor}
+use Rattle.sl_law_meaning.specs.methods.Field.{no_minima}
+use Rattle.sl_law_meaning.specs.methods.Allocations.{IsDivisorAllocation}
+use Rattle.sl_law_meaning.proofs.methods.SeatSums.{none_needed}
 use Rattle.sl_law_margins.specs.MissingVotes.{with_further, AreMissingWith, AreMissing}
 
 pub same_minima : (method : Divisor) (v m k : List ℕ) (seats : ℕ) (s : List ℕ) → ((i : ℕ) → get_or m i 0 ≡ get_or k i 0) →

@@ -3,11 +3,11 @@ use Rattle.std.proofs.Common.{◌≡◌, ℕ, zero, suc, ◌+◌, ◌-◌, ◌*�
 use Rattle.std.proofs.Math.Nat.{pow-suc, one-le-pow, mul-le-mul_right, le_of_mul-le-mul_right}
 use Rattle.std.proofs.lemmas.Nat.{mul-le, pow-add}
 use Rattle.std.proofs.lemmas.Bool.{cases_lt}
-use Rattle.sl_ratio.specs.declared.method.Divisor.{Divisor}
-use Rattle.sl_ratio.specs.declared.method.Divisor.TheVariants.{Adams, Dean, Hill, Webster, Jefferson}
-use Rattle.sl_ratio.specs.Quotient.{Quotient, AtMost, SameQuotient}
-use Rattle.sl_ratio.specs.Bounds.{HasWeight, last_quotient, next_quotient}
-use Rattle.sl_ratio.proofs.Order.{AtMost-Below, Below-AtMost}
+use Rattle.sl_base_quotients.specs.declared.method.Divisor.{Divisor}
+use Rattle.sl_base_quotients.specs.declared.method.Divisor.TheVariants.{Adams, Dean, Hill, Webster, Jefferson}
+use Rattle.sl_base_quotients.specs.Quotient.{Quotient, AtMost, SameQuotient}
+use Rattle.sl_base_quotients.specs.Bounds.{HasWeight, last_quotient, next_quotient}
+use Rattle.sl_base_quotients.proofs.Order.{AtMost-Below, Below-AtMost}
 use Rattle.sl_law_margins.specs.Decimals.{scaled, HasDigits}
 use Rattle.sl_law_margins.specs.Divisors.{as_quotient, Separates, IsShortest, unit_places}
 use Rattle.sl_law_margins.specs.inner.Units.{units}

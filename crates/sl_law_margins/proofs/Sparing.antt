@@ -5,15 +5,15 @@ use Rattle.std.specs.Option.{SomeIff}
 use Rattle.std.proofs.lemmas.Bool.{cases_lt}
 use Rattle.std.proofs.lemmas.List.{length-set, get_or-set_same, get_or-set_other, get_or_past}
 use Rattle.std.proofs.lemmas.List.FromFn.{length-map-range_with_len, get_or-map-range_with_len}
-use Rattle.sl_ratio.specs.declared.method.Divisor.{Divisor}
-use Rattle.sl_ratio.specs.Quotient.{Quotient, AtMost, quotient}
-use Rattle.sl_ratio.specs.Bounds.{HasWeight, next_quotient}
-use Rattle.sl_ratio.specs.inner.QuotientLaws.{quotient_positive}
-use Rattle.sl_ratio.proofs.Order.{AtMost-trans}
-use Rattle.sl_stages.specs.methods.Field.{InField}
-use Rattle.sl_stages.specs.methods.Allocations.{IsDivisorAllocation}
-use Rattle.sl_stages.proofs.methods.SeatSums.{some_greater}
-use Rattle.sl_stages.proofs.methods.DivisorProofs.{divisor_allocations, in_range}
+use Rattle.sl_base_quotients.specs.declared.method.Divisor.{Divisor}
+use Rattle.sl_base_quotients.specs.Quotient.{Quotient, AtMost, quotient}
+use Rattle.sl_base_quotients.specs.Bounds.{HasWeight, next_quotient}
+use Rattle.sl_base_quotients.specs.inner.QuotientLaws.{quotient_positive}
+use Rattle.sl_base_quotients.proofs.Order.{AtMost-trans}
+use Rattle.sl_law_meaning.specs.methods.Field.{InField}
+use Rattle.sl_law_meaning.specs.methods.Allocations.{IsDivisorAllocation}
+use Rattle.sl_law_meaning.proofs.methods.SeatSums.{some_greater}
+use Rattle.sl_law_meaning.proofs.methods.DivisorProofs.{divisor_allocations, in_range}
 use Rattle.sl_law_fairness.proofs.Chains.{falls_weak, in_field}
 use Rattle.sl_law_fairness.proofs.Moves.{other}
 use Rattle.sl_law_margins.specs.VotesToSpare.{with_fewer, KeepsItsSeats, MayLoseASeat, AreToSpare}

@@ -3,14 +3,14 @@ use Rattle.std.proofs.Common.{◌≡◌, ◌≢◌, ℕ, zero, suc, ◌+◌, ◌
 use Rattle.std.proofs.lemmas.Bool.{cases_lt, cases_eq}
 use Rattle.std.proofs.lemmas.List.{length-set, get_or-set_same, get_or-set_other, get_or_past}
 use Rattle.std.proofs.lemmas.List.Sums.{sum_by-set}
-use Rattle.sl_ratio.specs.declared.method.Divisor.{Divisor}
-use Rattle.sl_ratio.specs.Quotient.{AtMost, quotient}
-use Rattle.sl_ratio.specs.inner.QuotientLaws.{quotient_positive}
-use Rattle.sl_ratio.proofs.Order.{AtMost-trans, Below-AtMost}
-use Rattle.sl_stages.specs.methods.Field.{InField, no_minima}
-use Rattle.sl_stages.specs.methods.Allocations.{IsDivisorAllocation}
-use Rattle.sl_stages.proofs.methods.SeatSums.{some_greater, none_needed, sum-cons}
-use Rattle.sl_stages.proofs.methods.DivisorProofs.{in_range}
+use Rattle.sl_base_quotients.specs.declared.method.Divisor.{Divisor}
+use Rattle.sl_base_quotients.specs.Quotient.{AtMost, quotient}
+use Rattle.sl_base_quotients.specs.inner.QuotientLaws.{quotient_positive}
+use Rattle.sl_base_quotients.proofs.Order.{AtMost-trans, Below-AtMost}
+use Rattle.sl_law_meaning.specs.methods.Field.{InField, no_minima}
+use Rattle.sl_law_meaning.specs.methods.Allocations.{IsDivisorAllocation}
+use Rattle.sl_law_meaning.proofs.methods.SeatSums.{some_greater, none_needed, sum-cons}
+use Rattle.sl_law_meaning.proofs.methods.DivisorProofs.{in_range}
 use Rattle.sl_law_fairness.proofs.Chains.{falls_weak, rises_weak, in_field}
 use Rattle.sl_law_fairness.proofs.Moves.{other}
 use Rattle.sl_law_margins.specs.MissingVotes.{IsAllocation}

@@ -2,7 +2,7 @@
 use Rattle.std.specs.Prelude.{◌≡◌, ℕ, ◌-◌, ◌*◌, ◌/◌, ◌%◌, ◌^◌, ◌<◌, ◌≤◌, List, ◌++◌, length, codes, nat_eq, if◌then◌else◌}
 use Rattle.std.specs.Fmt.{decimal}
 use Rattle.std.specs.List.{repeat}
-use Rattle.sl_ratio.specs.Quotient.{Quotient, AtMost, SameQuotient}
+use Rattle.sl_base_quotients.specs.Quotient.{Quotient, AtMost, SameQuotient}
 
 -- the most places after the point
 abbrev pub max_places : ℕ

@@ -1,10 +1,10 @@
 -- Divisors of the fewest digits between the claims of an allocation (docs/margins.md, section 4). A scope is given by the votes v and
 -- the seats s of its entries, in entry order.
 use Rattle.std.specs.Prelude.{ℕ, ◌*◌, ◌^◌, ◌<◌, List, Option, Some, None, slice_index}
-use Rattle.sl_ratio.specs.declared.method.Divisor.{Divisor}
-use Rattle.sl_ratio.specs.declared.method.Divisor.TheVariants.{Adams, Dean, Hill, Webster, Jefferson}
-use Rattle.sl_ratio.specs.Quotient.{Quotient, Below}
-use Rattle.sl_ratio.specs.Bounds.{HasWeight, last_quotient, next_quotient}
+use Rattle.sl_base_quotients.specs.declared.method.Divisor.{Divisor}
+use Rattle.sl_base_quotients.specs.declared.method.Divisor.TheVariants.{Adams, Dean, Hill, Webster, Jefferson}
+use Rattle.sl_base_quotients.specs.Quotient.{Quotient, Below}
+use Rattle.sl_base_quotients.specs.Bounds.{HasWeight, last_quotient, next_quotient}
 use Rattle.sl_law_margins.specs.Decimals.{Number, value_of, scaled, HasDigits}
 
 -- a divisor as the quotients of the method have it: squared under Hill

@@ -1,10 +1,10 @@
 -- The laws of votes missing and of divisors (docs/margins.md, sections 1 and 4). Each is the contract of a function of `laws`.
 use Rattle.std.specs.Prelude.{◌≡◌, ℕ, ◌<◌, ◌≤◌, List, length, sum, slice_index}
-use Rattle.sl_ratio.specs.declared.limits.TheConstants.{MAX_SEATS}
-use Rattle.sl_ratio.specs.declared.method.Divisor.{Divisor}
-use Rattle.sl_ratio.specs.Quotient.{Below}
-use Rattle.sl_stages.specs.methods.Allocations.{IsDivisorAllocation}
-use Rattle.sl_ratio.specs.Bounds.{IsRounding, IsLast, IsNext, last_quotient, next_quotient}
+use Rattle.sl_base_quotients.specs.declared.limits.TheConstants.{MAX_SEATS}
+use Rattle.sl_base_quotients.specs.declared.method.Divisor.{Divisor}
+use Rattle.sl_base_quotients.specs.Quotient.{Below}
+use Rattle.sl_law_meaning.specs.methods.Allocations.{IsDivisorAllocation}
+use Rattle.sl_base_quotients.specs.Bounds.{IsRounding, IsLast, IsNext, last_quotient, next_quotient}
 use Rattle.sl_law_margins.specs.Decimals.{value_of}
 use Rattle.sl_law_margins.specs.Divisors.{Separates, unit_places}
 use Rattle.sl_law_margins.specs.MissingVotes.{AreEnoughWith}

@@ -1,10 +1,10 @@
 -- The votes that an entry lacks for one more seat (docs/margins.md, section 1). A scope is given by the votes v and the seats s of its
 -- entries, in entry order. A list reads 0 past its end.
 use Rattle.std.specs.Prelude.{◌≢◌, ℕ, ◌+◌, ◌<◌, ◌≤◌, List, [], Option, Some, None, max, sum, slice_index, slice_set}
-use Rattle.sl_ratio.specs.declared.method.Divisor.{Divisor}
-use Rattle.sl_ratio.specs.declared.method.Divisor.TheVariants.{Adams, Dean, Hill, Webster, Jefferson}
-use Rattle.sl_stages.specs.methods.Field.{no_minima}
-use Rattle.sl_stages.specs.methods.Allocations.{IsDivisorAllocation}
+use Rattle.sl_base_quotients.specs.declared.method.Divisor.{Divisor}
+use Rattle.sl_base_quotients.specs.declared.method.Divisor.TheVariants.{Adams, Dean, Hill, Webster, Jefferson}
+use Rattle.sl_law_meaning.specs.methods.Field.{no_minima}
+use Rattle.sl_law_meaning.specs.methods.Allocations.{IsDivisorAllocation}
 
 -- s is an allocation, without minima, of as many seats as it has
 abbrev pub IsAllocation : Divisor → List ℕ → List ℕ → Type 0

@@ -1,9 +1,9 @@
 -- The votes that must go over from one entry to another for one more seat (docs/margins.md, section 3). A scope is given by the votes v and the
 -- seats s of its entries, in entry order. A list reads 0 past its end.
 use Rattle.std.specs.Prelude.{ℕ, ◌+◌, ◌-◌, ◌<◌, ◌≤◌, List, Option, Some, None, sum, slice_index, slice_set}
-use Rattle.sl_ratio.specs.declared.method.Divisor.{Divisor}
-use Rattle.sl_stages.specs.methods.Field.{no_minima}
-use Rattle.sl_stages.specs.methods.Allocations.{IsDivisorAllocation}
+use Rattle.sl_base_quotients.specs.declared.method.Divisor.{Divisor}
+use Rattle.sl_law_meaning.specs.methods.Field.{no_minima}
+use Rattle.sl_law_meaning.specs.methods.Allocations.{IsDivisorAllocation}
 
 -- the votes with x that went from entry j to entry i, all else equal
 abbrev pub with_swing : List ℕ → ℕ → ℕ → ℕ → List ℕ

@@ -1,8 +1,8 @@
 -- The votes that an entry can spare (docs/margins.md, section 2). A scope is given by the votes v, the minima m and the seats s of its entries,
 -- in entry order. A list reads 0 past its end.
 use Rattle.std.specs.Prelude.{ℕ, ◌-◌, ◌<◌, ◌≤◌, List, Option, Some, None, sum, slice_index, slice_set}
-use Rattle.sl_ratio.specs.declared.method.Divisor.{Divisor}
-use Rattle.sl_stages.specs.methods.Allocations.{IsDivisorAllocation}
+use Rattle.sl_base_quotients.specs.declared.method.Divisor.{Divisor}
+use Rattle.sl_law_meaning.specs.methods.Allocations.{IsDivisorAllocation}
 
 -- the votes with y fewer for entry i, all else equal
 abbrev pub with_fewer : List ℕ → ℕ → ℕ → List ℕ

@@ -1,14 +1,14 @@
 //! Who won the last seat of an allocation, and who has the claim to the next one.
 
 ghost use Rattle.std.specs.Prelude.{◌≡◌, ◌-◌, ◌<◌, ◌≤◌, ◌↔◌, IsTrue, All, IfOk, length};
-ghost use Rattle.sl_ratio.specs.Quotient.{AtMost, quotient};
-ghost use Rattle.sl_ratio.specs.Bounds.{IsLast, IsNext};
+ghost use Rattle.sl_base_quotients.specs.Quotient.{AtMost, quotient};
+ghost use Rattle.sl_base_quotients.specs.Bounds.{IsLast, IsNext};
 ghost use Rattle.sl_ratio.specs.inner.Picks.{lesser, greater};
-ghost use Rattle.sl_stages.specs.methods.Ties.{Lists};
+ghost use Rattle.sl_law_meaning.specs.methods.Ties.{Lists};
 ghost use Rattle.sl_law_margins.specs.MissingVotes.{IsAllocation};
 ghost use Rattle.sl_law_margins.specs.inner.Claims.{IsLeastLast, IsGreatestNext, IsInField, IsFair};
 
-use sl_ratio::{Divisor, MAX_SEATS, MAX_WEIGHT, NoMemory, Ratio};
+use sl_base_quotients::{Divisor, MAX_SEATS, MAX_WEIGHT, NoMemory, Ratio};
 use std::alloc::Global;
 
 // The lesser of two claims, the one found before where they are equal.

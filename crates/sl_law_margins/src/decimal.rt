@@ -1,10 +1,10 @@
 //! Decimal numbers, and quotients in decimals.
 
 ghost use Rattle.std.specs.Prelude.{◌≡◌, ◌^◌, ◌<◌, ◌≤◌, IfOk, string_bytes};
-ghost use Rattle.sl_ratio.specs.Quotient.{SameQuotient};
+ghost use Rattle.sl_base_quotients.specs.Quotient.{SameQuotient};
 ghost use Rattle.sl_law_margins.specs.Decimals.{IsCut, number_text, value_of};
 
-use sl_ratio::{MAX_NUMERATOR, NoMemory};
+use sl_base_quotients::{MAX_NUMERATOR, NoMemory};
 use std::alloc::Global;
 use std::marker::Model;
 

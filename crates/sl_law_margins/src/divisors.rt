@@ -9,7 +9,7 @@ ghost use Rattle.sl_law_margins.specs.inner.Units.{IsFrom, IsUpTo, IsUnitsAbove,
 use crate::claims::{greatest_next, least_last};
 use crate::decimal::{Decimal, shortened};
 use crate::votes::root_above;
-use sl_ratio::{Divisor, MAX_SEATS, MAX_WEIGHT, Ratio};
+use sl_base_quotients::{Divisor, MAX_SEATS, MAX_WEIGHT, Ratio};
 
 // A quotient is counted in parts of this size. A divisor is counted in units of the same size, and under Hill, where quotients are squares,
 // in units of its root.

@@ -1,7 +1,8 @@
 //! The margins of an allocation by a divisor method without minima: the votes that an entry lacks for one more seat, who won the last seat and who
 //! has the next claim, a divisor in few digits, and quotients in decimals.
 //!
-//! Stands on `sl_law_fairness`; used by the rooms law, report and test. Proved: each number is the least, the first or the shortest of its kind.
+//! Stands on `sl_law_fairness` and `sl_ratio`; used by the rooms law, report and test. Proved: each number is the least, the first or the shortest of
+//! its kind.
 //!
 //! Where an error is `NoMemory` alone, memory ran out, and nothing else is wrong.
 #![tactic(auto)]

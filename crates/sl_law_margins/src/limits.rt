@@ -2,7 +2,7 @@
 
 ghost use Rattle.std.specs.Prelude.{◌≡◌, ◌<◌, ◌≤◌, ◌↔◌, IsTrue, All, length, sum};
 
-use sl_ratio::{MAX_SEATS, MAX_WEIGHT};
+use sl_base_quotients::{MAX_SEATS, MAX_WEIGHT};
 
 fn are_weights(votes: &[u64]) -> bool
     ensures { IsTrue result ↔ All (λ v. v ≤ MAX_WEIGHT) votes.now }

@@ -1,13 +1,13 @@
 //! Whether seats are an allocation with minima.
 
 ghost use Rattle.std.specs.Prelude.{◌≡◌, ◌-◌, ◌<◌, ◌≤◌, ◌↔◌, IsTrue, All, length, sum};
-ghost use Rattle.sl_ratio.specs.Quotient.{AtMost, quotient};
-ghost use Rattle.sl_stages.specs.methods.Allocations.{IsDivisorAllocation};
+ghost use Rattle.sl_base_quotients.specs.Quotient.{AtMost, quotient};
+ghost use Rattle.sl_law_meaning.specs.methods.Allocations.{IsDivisorAllocation};
 ghost use Rattle.sl_law_margins.specs.inner.Minima.{AreMet, AreReached};
 
 use crate::claims::greatest_next;
 use crate::votes::minimum;
-use sl_ratio::{Divisor, MAX_SEATS, MAX_WEIGHT, Ratio};
+use sl_base_quotients::{Divisor, MAX_SEATS, MAX_WEIGHT, Ratio};
 
 // Whether an entry has its minimum, and just that if it has no votes.
 fn is_met(weight: u64, least: u32, held: u32) -> bool

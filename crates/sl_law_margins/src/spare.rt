@@ -1,12 +1,12 @@
 //! The votes that an entry can spare.
 
 ghost use Rattle.std.specs.Prelude.{◌≡◌, ◌<◌, ◌≤◌, All, length, sum, slice_index};
-ghost use Rattle.sl_stages.specs.methods.Allocations.{IsDivisorAllocation};
+ghost use Rattle.sl_law_meaning.specs.methods.Allocations.{IsDivisorAllocation};
 ghost use Rattle.sl_law_margins.specs.VotesToSpare.{AreToSpare};
 ghost use Rattle.sl_law_margins.specs.inner.Kept.{IsKept};
 
 use crate::votes::weight_above;
-use sl_ratio::{Divisor, MAX_SEATS, MAX_WEIGHT};
+use sl_base_quotients::{Divisor, MAX_SEATS, MAX_WEIGHT};
 
 // The least weight by which the entry's last quotient is above the next one of every other entry with votes, or `None` where one of these is
 // infinite.

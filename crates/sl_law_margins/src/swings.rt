@@ -6,7 +6,7 @@ ghost use Rattle.sl_law_margins.specs.Swings.{IsSwing};
 ghost use Rattle.sl_law_margins.specs.VotesToSpare.{with_fewer};
 ghost use Rattle.sl_law_margins.specs.inner.Filled.{Reaches, AreFilled};
 
-use sl_ratio::{Divisor, MAX_SEATS, MAX_WEIGHT, Ratio};
+use sl_base_quotients::{Divisor, MAX_SEATS, MAX_WEIGHT, Ratio};
 
 // How many seats, at most so many, a weight has by claims that are no smaller than this one.
 fn seats_reached(method: Divisor, weight: u64, claim: Ratio, most: u32) -> u32

@@ -1,12 +1,12 @@
 //! The votes that an entry lacks for one more seat.
 
 ghost use Rattle.std.specs.Prelude.{◌≡◌, ◌^◌, ◌<◌, ◌≤◌, ◌↔◌, None, All, MatchOption, length, sum, slice_index};
-ghost use Rattle.sl_ratio.specs.Quotient.{quotient};
-ghost use Rattle.sl_stages.specs.methods.Allocations.{IsDivisorAllocation};
+ghost use Rattle.sl_base_quotients.specs.Quotient.{quotient};
+ghost use Rattle.sl_law_meaning.specs.methods.Allocations.{IsDivisorAllocation};
 ghost use Rattle.sl_law_margins.specs.MissingVotes.{IsAllocation, AreMissing, AreMissingWith, AreOthersSafe, AreOthersSafeWith};
 ghost use Rattle.sl_law_margins.specs.inner.Needed.{power_of, IsLeast, IsAbove, IsNeeded, lesser};
 
-use sl_ratio::{Divisor, MAX_SEATS, MAX_WEIGHT};
+use sl_base_quotients::{Divisor, MAX_SEATS, MAX_WEIGHT};
 
 // The least number whose power, by the degree that quotients have in the weight, exceeds `power`.
 pub(crate) fn root_above(method: Divisor, power: u128) -> u128

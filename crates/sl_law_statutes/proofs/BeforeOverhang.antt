@@ -2,24 +2,24 @@
 use Rattle.std.proofs.Common.{◌≡◌, ℕ, ◌-◌, ◌*◌, ◌<◌, List, [], get_or, sum, sum_by, inl, inr, arith, refl, sym, ap, subst, ◌∙◌}
 use Rattle.std.specs.Prelude.{slice_index}
 use Rattle.std.proofs.lemmas.Bool.{cases_lt}
-use Rattle.sl_ratio.specs.declared.method.Divisor.TheVariants.{Jefferson, Webster}
-use Rattle.sl_ratio.specs.declared.method.Method.{Method}
-use Rattle.sl_ratio.specs.declared.method.Method.TheVariants as by
-use Rattle.sl_stages.specs.declared.book.Majority.{Majority}
-use Rattle.sl_stages.specs.declared.book.Majority.TheVariants as majority
+use Rattle.sl_base_quotients.specs.declared.method.Divisor.TheVariants.{Jefferson, Webster}
+use Rattle.sl_base_quotients.specs.declared.method.Method.{Method}
+use Rattle.sl_base_quotients.specs.declared.method.Method.TheVariants as by
+use Rattle.sl_law_meaning.specs.declared.book.Majority.{Majority}
+use Rattle.sl_law_meaning.specs.declared.book.Majority.TheVariants as majority
 use Rattle.sl_base_terms.specs.declared.shape.Shape.TheVariants as shape
-use Rattle.sl_stages.specs.declared.fact.Fact.TheVariants as facts
-use Rattle.sl_stages.specs.declared.fault.Item.TheVariants as item
-use Rattle.sl_stages.specs.book.Trees.{BookTree}
-use Rattle.sl_stages.specs.returns.Election.{Election, IsElection, parties_of}
-use Rattle.sl_stages.specs.returns.Facts.{lands, parties, list_cell, by_party}
-use Rattle.sl_stages.specs.methods.Field.{no_minima}
-use Rattle.sl_stages.specs.meaning.Columns.{IsLeaf, fact_column}
-use Rattle.sl_stages.specs.meaning.Scopes.{cells, entries_of}
-use Rattle.sl_stages.specs.meaning.Splits.{IsAllocation}
-use Rattle.sl_stages.specs.meaning.Seating.{base_of}
-use Rattle.sl_stages.specs.meaning.Means.{Through, nothing_known, StagesMean}
-use Rattle.sl_stages.proofs.meaning.DistinctLists.{always}
+use Rattle.sl_law_meaning.specs.declared.fact.Fact.TheVariants as facts
+use Rattle.sl_law_meaning.specs.declared.fault.Item.TheVariants as item
+use Rattle.sl_law_meaning.specs.book.Trees.{BookTree}
+use Rattle.sl_law_meaning.specs.returns.Election.{Election, IsElection, parties_of}
+use Rattle.sl_law_meaning.specs.returns.Facts.{lands, parties, list_cell, by_party}
+use Rattle.sl_law_meaning.specs.methods.Field.{no_minima}
+use Rattle.sl_law_meaning.specs.meaning.Columns.{IsLeaf, fact_column}
+use Rattle.sl_law_meaning.specs.meaning.Scopes.{cells, entries_of}
+use Rattle.sl_law_meaning.specs.meaning.Splits.{IsAllocation}
+use Rattle.sl_law_meaning.specs.meaning.Seating.{base_of}
+use Rattle.sl_law_meaning.specs.meaning.Means.{Through, nothing_known, StagesMean}
+use Rattle.sl_law_meaning.proofs.meaning.DistinctLists.{always}
 use Rattle.sl_law_fairness.specs.Winners.{IsBase, outside}
 use Rattle.sl_law_fairness.specs.Amounts.{sum_in}
 use Rattle.sl_law_fairness.proofs.Majorities.{jefferson_majority}

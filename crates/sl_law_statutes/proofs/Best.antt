@@ -1,7 +1,7 @@
 -- By Webster's method, so by what holds of it.
 use Rattle.std.proofs.Common.{◌-◌}
-use Rattle.sl_ratio.specs.declared.method.Divisor.TheVariants.{Webster}
-use Rattle.sl_stages.specs.book.Trees.{BookTree}
+use Rattle.sl_base_quotients.specs.declared.method.Divisor.TheVariants.{Webster}
+use Rattle.sl_law_meaning.specs.book.Trees.{BookTree}
 use Rattle.sl_law_fairness.specs.Winners.{independents}
 use Rattle.sl_law_fairness.proofs.Deviations.{webster_least_deviations}
 use Rattle.sl_law_fairness.proofs.Huntington.{huntingtons_tests}

@@ -3,35 +3,35 @@ use Rattle.std.proofs.Common.{◌≡◌, ℕ, ◌-◌, ◌*◌, ◌<◌, ◌≤�
 use Rattle.std.specs.Prelude.{Contains, slice_index, codes, Option, find, option_map}
 use Rattle.std.specs.List.{AllByRecursion as Every, AllZip}
 use Rattle.std.proofs.lemmas.Bool.{cases_lt, cases_Bool, both_ways, cond-true, cond-false}
-use Rattle.sl_ratio.specs.declared.method.Divisor.TheVariants.{Webster}
-use Rattle.sl_ratio.specs.declared.method.Method.TheVariants as by
-use Rattle.sl_stages.specs.declared.book.Axis.TheVariants as axis
-use Rattle.sl_stages.specs.declared.book.Majority.TheVariants as majority
-use Rattle.sl_stages.specs.declared.book.Pairing.{Pairing}
-use Rattle.sl_stages.specs.declared.book.Pairing.TheVariants as pairings
+use Rattle.sl_base_quotients.specs.declared.method.Divisor.TheVariants.{Webster}
+use Rattle.sl_base_quotients.specs.declared.method.Method.TheVariants as by
+use Rattle.sl_law_meaning.specs.declared.book.Axis.TheVariants as axis
+use Rattle.sl_law_meaning.specs.declared.book.Majority.TheVariants as majority
+use Rattle.sl_law_meaning.specs.declared.book.Pairing.{Pairing}
+use Rattle.sl_law_meaning.specs.declared.book.Pairing.TheVariants as pairings
 use Rattle.sl_base_terms.specs.declared.shape.Shape.TheVariants as shape
-use Rattle.sl_stages.specs.declared.fact.Fact.TheVariants as facts
-use Rattle.sl_stages.specs.declared.fault.Scope.TheVariants as scope
-use Rattle.sl_stages.specs.declared.fault.Item.{Item}
-use Rattle.sl_stages.specs.declared.fault.Item.TheVariants as item
-use Rattle.sl_stages.specs.declared.table.ListSeats.{ListSeats}
-use Rattle.sl_stages.specs.declared.table.Outcome.TheVariants as outcome
-use Rattle.sl_stages.specs.book.Trees.{ExprTree, fact, name, pair, atleast, BookTree}
-use Rattle.sl_stages.specs.returns.Election.{Election, IsElection, lands_of, parties_of, has_list}
-use Rattle.sl_stages.specs.returns.Facts.{lands, parties, lists_of, list_cell}
-use Rattle.sl_stages.specs.methods.LeastHouse.{GrownTo, IsGrowth, IsGrownAllocation}
-use Rattle.sl_stages.specs.laws.MeaningLaws.{IsListOf}
-use Rattle.sl_stages.specs.meaning.Columns.{IsLeaf, is_column_of, fact_column, pair_of, sum_over}
-use Rattle.sl_stages.specs.meaning.Records.{Records}
-use Rattle.sl_stages.specs.meaning.Results.{ExprResult, Column, Then, plain}
-use Rattle.sl_stages.specs.meaning.Scopes.{Group, cells, scopes, entries_of, lists_in_land, lists_of_party}
-use Rattle.sl_stages.specs.meaning.Expressions.{Context, ExprMeans}
-use Rattle.sl_stages.specs.meaning.Means.{Known, Through, nothing_known, context_of, with_stage, StagesMean, Means}
-use Rattle.sl_stages.specs.meaning.Tables.{SeatTable}
-use Rattle.sl_stages.specs.methods.Field.{no_minima}
-use Rattle.sl_stages.specs.methods.Allocations.{IsDivisorAllocation}
-use Rattle.sl_stages.proofs.meaning.DistinctLists.{every_weaker, every_both}
-use Rattle.sl_stages.proofs.meaning.TypedMeaning.{then_column}
+use Rattle.sl_law_meaning.specs.declared.fact.Fact.TheVariants as facts
+use Rattle.sl_law_meaning.specs.declared.fault.Scope.TheVariants as scope
+use Rattle.sl_law_meaning.specs.declared.fault.Item.{Item}
+use Rattle.sl_law_meaning.specs.declared.fault.Item.TheVariants as item
+use Rattle.sl_law_meaning.specs.declared.table.ListSeats.{ListSeats}
+use Rattle.sl_law_meaning.specs.declared.table.Outcome.TheVariants as outcome
+use Rattle.sl_law_meaning.specs.book.Trees.{ExprTree, fact, name, pair, atleast, BookTree}
+use Rattle.sl_law_meaning.specs.returns.Election.{Election, IsElection, lands_of, parties_of, has_list}
+use Rattle.sl_law_meaning.specs.returns.Facts.{lands, parties, lists_of, list_cell}
+use Rattle.sl_law_meaning.specs.methods.LeastHouse.{GrownTo, IsGrowth, IsGrownAllocation}
+use Rattle.sl_law_meaning.specs.laws.MeaningLaws.{IsListOf}
+use Rattle.sl_law_meaning.specs.meaning.Columns.{IsLeaf, is_column_of, fact_column, pair_of, sum_over}
+use Rattle.sl_law_meaning.specs.meaning.Records.{Records}
+use Rattle.sl_law_meaning.specs.meaning.Results.{ExprResult, Column, Then, plain}
+use Rattle.sl_law_meaning.specs.meaning.Scopes.{Group, cells, scopes, entries_of, lists_in_land, lists_of_party}
+use Rattle.sl_law_meaning.specs.meaning.Expressions.{Context, ExprMeans}
+use Rattle.sl_law_meaning.specs.meaning.Means.{Known, Through, nothing_known, context_of, with_stage, StagesMean, Means}
+use Rattle.sl_law_meaning.specs.meaning.Tables.{SeatTable}
+use Rattle.sl_law_meaning.specs.methods.Field.{no_minima}
+use Rattle.sl_law_meaning.specs.methods.Allocations.{IsDivisorAllocation}
+use Rattle.sl_law_meaning.proofs.meaning.DistinctLists.{every_weaker, every_both}
+use Rattle.sl_law_meaning.proofs.meaning.TypedMeaning.{then_column}
 use Rattle.sl_law_fairness.specs.Winners.{IsBase, base_seats, winners_on, overhang, outside, IsLine}
 use Rattle.sl_law_fairness.specs.Amounts.{sum_in, KeepsMajorities}
 use Rattle.sl_law_fairness.proofs.Amounts.{no_less, splits_allocate, splits_give_the_amount, splits_meet_the_minima, growths_allocate, grown_majority_kept}

@@ -4,29 +4,29 @@ use Rattle.std.specs.Prelude.{Contains, is_some, slice_index, replicate}
 use Rattle.std.specs.List.{AllByRecursion as Every}
 use Rattle.std.proofs.lemmas.Bool.{cases_Bool, cases_lt, cases_eq, cond-true, cond-false}
 use Rattle.std.proofs.lemmas.List.{length-map}
-use Rattle.sl_ratio.specs.declared.method.Divisor.TheVariants.{Webster}
-use Rattle.sl_ratio.specs.declared.method.Method.TheVariants as by
-use Rattle.sl_stages.specs.declared.book.Majority.TheVariants as majority
-use Rattle.sl_stages.specs.declared.fact.Fact.TheVariants as facts
-use Rattle.sl_stages.specs.declared.fault.Item.TheVariants as item
-use Rattle.sl_stages.specs.declared.returns.ListVotes.{ListVotes}
-use Rattle.sl_stages.specs.declared.returns.Lot.{Lot}
-use Rattle.sl_stages.specs.declared.table.Outcome.TheVariants as outcome
-use Rattle.sl_stages.specs.book.Trees.{BookTree}
-use Rattle.sl_stages.specs.book.Typing.{is_typed}
-use Rattle.sl_stages.specs.returns.Votes.{counted_in}
-use Rattle.sl_stages.specs.returns.Election.{Election, IsElection, lands_of, parties_of, list_at, has_list, with_list}
-use Rattle.sl_stages.specs.returns.Facts.{lands, list_cell, is_eligible}
-use Rattle.sl_stages.specs.methods.Field.{no_minima}
-use Rattle.sl_stages.specs.methods.Allocations.{IsDivisorAllocation}
-use Rattle.sl_stages.specs.meaning.Columns.{fact_column}
-use Rattle.sl_stages.specs.meaning.Scopes.{cells, place, lists_of_party}
-use Rattle.sl_stages.specs.meaning.Tables.{SeatTable}
-use Rattle.sl_stages.specs.meaning.Means.{Means}
-use Rattle.sl_stages.proofs.methods.RaisedSeats.{Contains-head, Contains-tail, Contains-cases, Contains-none}
-use Rattle.sl_stages.proofs.methods.ListedEntries.{filter_only, filter_has}
-use Rattle.sl_stages.proofs.methods.SeatSums.{some_greater, none_needed}
-use Rattle.sl_stages.proofs.methods.TieLaw.{below_length}
+use Rattle.sl_base_quotients.specs.declared.method.Divisor.TheVariants.{Webster}
+use Rattle.sl_base_quotients.specs.declared.method.Method.TheVariants as by
+use Rattle.sl_law_meaning.specs.declared.book.Majority.TheVariants as majority
+use Rattle.sl_law_meaning.specs.declared.fact.Fact.TheVariants as facts
+use Rattle.sl_law_meaning.specs.declared.fault.Item.TheVariants as item
+use Rattle.sl_law_meaning.specs.declared.election.ListVotes.{ListVotes}
+use Rattle.sl_law_meaning.specs.declared.election.Lot.{Lot}
+use Rattle.sl_law_meaning.specs.declared.table.Outcome.TheVariants as outcome
+use Rattle.sl_law_meaning.specs.book.Trees.{BookTree}
+use Rattle.sl_law_meaning.specs.book.Typing.{is_typed}
+use Rattle.sl_law_meaning.specs.returns.Votes.{counted_in}
+use Rattle.sl_law_meaning.specs.returns.Election.{Election, IsElection, lands_of, parties_of, list_at, has_list, with_list}
+use Rattle.sl_law_meaning.specs.returns.Facts.{lands, list_cell, is_eligible}
+use Rattle.sl_law_meaning.specs.methods.Field.{no_minima}
+use Rattle.sl_law_meaning.specs.methods.Allocations.{IsDivisorAllocation}
+use Rattle.sl_law_meaning.specs.meaning.Columns.{fact_column}
+use Rattle.sl_law_meaning.specs.meaning.Scopes.{cells, place, lists_of_party}
+use Rattle.sl_law_meaning.specs.meaning.Tables.{SeatTable}
+use Rattle.sl_law_meaning.specs.meaning.Means.{Means}
+use Rattle.sl_law_meaning.proofs.methods.RaisedSeats.{Contains-head, Contains-tail, Contains-cases, Contains-none}
+use Rattle.sl_law_meaning.proofs.methods.ListedEntries.{filter_only, filter_has}
+use Rattle.sl_law_meaning.proofs.methods.SeatSums.{some_greater, none_needed}
+use Rattle.sl_law_meaning.proofs.methods.TieLaw.{below_length}
 use Rattle.sl_law_fairness.specs.Winners.{IsBase}
 use Rattle.sl_law_fairness.proofs.ListColumns.{map_mapped, below}
 use Rattle.sl_law_fairness.proofs.RelativeVotes.{absolutely_monotone}

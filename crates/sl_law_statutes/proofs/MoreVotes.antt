@@ -5,30 +5,30 @@ use Rattle.std.proofs.Math.Nat.{mul-le-mul_left, mul-le-mul_right}
 use Rattle.std.specs.List.{AllByRecursion as Every, list_any}
 use Rattle.std.proofs.lemmas.Bool.{cases_Bool, cases_lt, cases_eq, or_cases, or_left, or_right, leb-true, le-leb, cond-true, cond-false}
 use Rattle.std.proofs.lemmas.List.{get_or-set_same, get_or-set_other}
-use Rattle.sl_ratio.specs.declared.method.Divisor.TheVariants.{Webster}
-use Rattle.sl_ratio.specs.declared.method.Method.TheVariants as by
-use Rattle.sl_stages.specs.declared.book.Cond.{Cond}
-use Rattle.sl_stages.specs.declared.book.Cond.TheVariants as condition
-use Rattle.sl_stages.specs.declared.book.Majority.TheVariants as majority
+use Rattle.sl_base_quotients.specs.declared.method.Divisor.TheVariants.{Webster}
+use Rattle.sl_base_quotients.specs.declared.method.Method.TheVariants as by
+use Rattle.sl_law_meaning.specs.declared.book.Cond.{Cond}
+use Rattle.sl_law_meaning.specs.declared.book.Cond.TheVariants as condition
+use Rattle.sl_law_meaning.specs.declared.book.Majority.TheVariants as majority
 use Rattle.sl_base_terms.specs.declared.shape.Shape.TheVariants as shape
-use Rattle.sl_stages.specs.declared.fact.Fact.TheVariants as facts
-use Rattle.sl_stages.specs.declared.returns.ListVotes.{ListVotes}
-use Rattle.sl_stages.specs.book.Trees.{BookTree}
-use Rattle.sl_stages.specs.book.Typing.{is_typed}
-use Rattle.sl_stages.specs.returns.Votes.{valid_in, counted_in}
-use Rattle.sl_stages.specs.returns.Election.{Election, IsElection, lands_of, parties_of, list_at, with_list}
-use Rattle.sl_stages.specs.returns.Facts.{lands, parties, list_cell, valid_votes, all_valid_votes, meets, is_eligible, counted_votes}
-use Rattle.sl_stages.specs.methods.Field.{no_minima}
-use Rattle.sl_stages.specs.methods.Allocations.{IsDivisorAllocation}
-use Rattle.sl_stages.specs.meaning.Columns.{IsLeaf, fact_column}
-use Rattle.sl_stages.specs.meaning.Scopes.{cells, entries_of}
-use Rattle.sl_stages.specs.meaning.Seating.{base_of}
-use Rattle.sl_stages.specs.meaning.Means.{Through, nothing_known, StagesMean}
-use Rattle.sl_stages.proofs.Elections.{list_told}
-use Rattle.sl_stages.proofs.FactReadings.{lists_are_named}
-use Rattle.sl_stages.proofs.methods.SeatSums.{none_needed}
-use Rattle.sl_stages.proofs.meaning.ListPlaces.{by_list_at}
-use Rattle.sl_stages.proofs.meaning.DistinctLists.{every_weaker, every_both, always}
+use Rattle.sl_law_meaning.specs.declared.fact.Fact.TheVariants as facts
+use Rattle.sl_law_meaning.specs.declared.election.ListVotes.{ListVotes}
+use Rattle.sl_law_meaning.specs.book.Trees.{BookTree}
+use Rattle.sl_law_meaning.specs.book.Typing.{is_typed}
+use Rattle.sl_law_meaning.specs.returns.Votes.{valid_in, counted_in}
+use Rattle.sl_law_meaning.specs.returns.Election.{Election, IsElection, lands_of, parties_of, list_at, with_list}
+use Rattle.sl_law_meaning.specs.returns.Facts.{lands, parties, list_cell, valid_votes, all_valid_votes, meets, is_eligible, counted_votes}
+use Rattle.sl_law_meaning.specs.methods.Field.{no_minima}
+use Rattle.sl_law_meaning.specs.methods.Allocations.{IsDivisorAllocation}
+use Rattle.sl_law_meaning.specs.meaning.Columns.{IsLeaf, fact_column}
+use Rattle.sl_law_meaning.specs.meaning.Scopes.{cells, entries_of}
+use Rattle.sl_law_meaning.specs.meaning.Seating.{base_of}
+use Rattle.sl_law_meaning.specs.meaning.Means.{Through, nothing_known, StagesMean}
+use Rattle.sl_law_meaning.proofs.Elections.{list_told}
+use Rattle.sl_law_meaning.proofs.FactReadings.{lists_are_named}
+use Rattle.sl_law_meaning.proofs.methods.SeatSums.{none_needed}
+use Rattle.sl_law_meaning.proofs.meaning.ListPlaces.{by_list_at}
+use Rattle.sl_law_meaning.proofs.meaning.DistinctLists.{every_weaker, every_both, always}
 use Rattle.sl_law_fairness.specs.Winners.{independents}
 use Rattle.sl_law_fairness.specs.Amounts.{sum_in}
 use Rattle.sl_law_fairness.proofs.ListColumns.{sum_agree, below}

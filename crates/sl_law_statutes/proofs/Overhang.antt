@@ -2,19 +2,19 @@
 use Rattle.std.proofs.Common.{◌≡◌, ℕ, true, ◌+◌, ◌-◌, List, filter, max, refl, sym, ap, subst, ◌∙◌}
 use Rattle.std.specs.Prelude.{slice_index}
 use Rattle.std.specs.List.{AllByRecursion as Every}
-use Rattle.sl_ratio.specs.declared.method.Divisor.TheVariants.{Jefferson, Webster}
-use Rattle.sl_ratio.specs.declared.method.Method.{Method}
-use Rattle.sl_ratio.specs.declared.method.Method.TheVariants as by
-use Rattle.sl_stages.specs.declared.book.Majority.{Majority}
-use Rattle.sl_stages.specs.declared.book.Majority.TheVariants as majority
-use Rattle.sl_stages.specs.declared.fact.Fact.TheVariants as facts
-use Rattle.sl_stages.specs.book.Trees.{BookTree}
-use Rattle.sl_stages.specs.book.Typing.{is_typed}
-use Rattle.sl_stages.specs.returns.Election.{Election, has_list}
-use Rattle.sl_stages.specs.returns.Facts.{lands, parties, by_party}
-use Rattle.sl_stages.specs.methods.Field.{no_minima}
-use Rattle.sl_stages.specs.meaning.Splits.{IsAllocation}
-use Rattle.sl_stages.proofs.meaning.DistinctLists.{every_weaker, always}
+use Rattle.sl_base_quotients.specs.declared.method.Divisor.TheVariants.{Jefferson, Webster}
+use Rattle.sl_base_quotients.specs.declared.method.Method.{Method}
+use Rattle.sl_base_quotients.specs.declared.method.Method.TheVariants as by
+use Rattle.sl_law_meaning.specs.declared.book.Majority.{Majority}
+use Rattle.sl_law_meaning.specs.declared.book.Majority.TheVariants as majority
+use Rattle.sl_law_meaning.specs.declared.fact.Fact.TheVariants as facts
+use Rattle.sl_law_meaning.specs.book.Trees.{BookTree}
+use Rattle.sl_law_meaning.specs.book.Typing.{is_typed}
+use Rattle.sl_law_meaning.specs.returns.Election.{Election, has_list}
+use Rattle.sl_law_meaning.specs.returns.Facts.{lands, parties, by_party}
+use Rattle.sl_law_meaning.specs.methods.Field.{no_minima}
+use Rattle.sl_law_meaning.specs.meaning.Splits.{IsAllocation}
+use Rattle.sl_law_meaning.proofs.meaning.DistinctLists.{every_weaker, always}
 use Rattle.sl_law_fairness.specs.Winners.{base_seats, winners_on, outside}
 use Rattle.sl_law_fairness.specs.Amounts.{sum_in}
 use Rattle.sl_law_fairness.proofs.Bases.{end_of}

@@ -7,13 +7,13 @@ use Rattle.std.proofs.lemmas.List.{get_or_past}
 use Rattle.std.proofs.lemmas.List.FromFn.{length-map-range_with_len, get_or-map-range_with_len}
 use Rattle.std.proofs.lemmas.List.Sums.{sum_by-cons}
 use Rattle.sl_base_terms.specs.declared.shape.Shape.TheVariants as shape
-use Rattle.sl_stages.specs.declared.fault.Item.TheVariants as item
-use Rattle.sl_stages.specs.declared.table.ListSeats.{ListSeats}
-use Rattle.sl_stages.specs.returns.Election.{Election, parties_of, has_list}
-use Rattle.sl_stages.specs.returns.Facts.{lands, parties, by_party, lists_of}
-use Rattle.sl_stages.specs.meaning.Scopes.{place, cells, entries_of}
-use Rattle.sl_stages.specs.meaning.Tables.{SeatTable}
-use Rattle.sl_stages.proofs.meaning.DistinctLists.{every_weaker, always}
+use Rattle.sl_law_meaning.specs.declared.fault.Item.TheVariants as item
+use Rattle.sl_law_meaning.specs.declared.table.ListSeats.{ListSeats}
+use Rattle.sl_law_meaning.specs.returns.Election.{Election, parties_of, has_list}
+use Rattle.sl_law_meaning.specs.returns.Facts.{lands, parties, by_party, lists_of}
+use Rattle.sl_law_meaning.specs.meaning.Scopes.{place, cells, entries_of}
+use Rattle.sl_law_meaning.specs.meaning.Tables.{SeatTable}
+use Rattle.sl_law_meaning.proofs.meaning.DistinctLists.{every_weaker, always}
 use Rattle.sl_law_fairness.specs.Winners.{base_seats, IsLine}
 use Rattle.sl_law_fairness.specs.Amounts.{sum_in}
 use Rattle.sl_law_fairness.proofs.ListColumns.{sum_agree, sum_mapped, sum_pieces, map_mapped, below}

@@ -2,18 +2,18 @@
 use Rattle.std.proofs.Common.{◌≡◌, ℕ, ◌-◌, List, [], ◌∷◌, Some, sum, sym, ap, ◌∙◌}
 use Rattle.std.specs.Prelude.{find, option_map}
 use Rattle.std.proofs.lemmas.Option.{same_Some}
-use Rattle.sl_stages.specs.declared.book.Axis.TheVariants as axis
-use Rattle.sl_stages.specs.declared.book.Pairing.TheVariants as pairings
-use Rattle.sl_stages.specs.declared.fact.Fact.{Fact}
-use Rattle.sl_stages.specs.declared.fact.Fact.TheVariants as facts
-use Rattle.sl_stages.specs.book.Trees.{fact, name, StageTree, BookTree}
-use Rattle.sl_stages.specs.returns.Election.{Election}
-use Rattle.sl_stages.specs.meaning.Columns.{is_column_of, fact_column, sum_over, pair_of}
-use Rattle.sl_stages.specs.meaning.Records.{Records}
-use Rattle.sl_stages.specs.meaning.Results.{ExprResult, Column, Fault, plain, Then}
-use Rattle.sl_stages.specs.meaning.Expressions.{Context, ExprMeans}
-use Rattle.sl_stages.specs.meaning.Means.{Known, Through, context_of, with_stage, GoesOn, StagesMean}
-use Rattle.sl_stages.proofs.meaning.TypedMeaning.{then_column}
+use Rattle.sl_law_meaning.specs.declared.book.Axis.TheVariants as axis
+use Rattle.sl_law_meaning.specs.declared.book.Pairing.TheVariants as pairings
+use Rattle.sl_law_meaning.specs.declared.fact.Fact.{Fact}
+use Rattle.sl_law_meaning.specs.declared.fact.Fact.TheVariants as facts
+use Rattle.sl_law_meaning.specs.book.Trees.{fact, name, StageTree, BookTree}
+use Rattle.sl_law_meaning.specs.returns.Election.{Election}
+use Rattle.sl_law_meaning.specs.meaning.Columns.{is_column_of, fact_column, sum_over, pair_of}
+use Rattle.sl_law_meaning.specs.meaning.Records.{Records}
+use Rattle.sl_law_meaning.specs.meaning.Results.{ExprResult, Column, Fault, plain, Then}
+use Rattle.sl_law_meaning.specs.meaning.Expressions.{Context, ExprMeans}
+use Rattle.sl_law_meaning.specs.meaning.Means.{Known, Through, context_of, with_stage, GoesOn, StagesMean}
+use Rattle.sl_law_meaning.proofs.meaning.TypedMeaning.{then_column}
 use Rattle.sl_law_statutes.specs.Trees.{pool, party_votes}
 use Rattle.sl_law_statutes.specs.Houses.{house_of}
 use Rattle.sl_law_statutes.specs.Parties.{party_column}

@@ -4,25 +4,25 @@ use Rattle.std.specs.Prelude.{Contains, is_none, slice_index, find, option_map, 
 use Rattle.std.specs.List.{AllByRecursion as Every}
 use Rattle.std.proofs.lemmas.Option.{same_Some}
 use Rattle.std.proofs.lemmas.List.Sums.{sum-map}
-use Rattle.sl_ratio.specs.declared.method.Method.{Method}
-use Rattle.sl_ratio.specs.declared.method.Method.TheVariants as by
-use Rattle.sl_stages.specs.declared.book.Majority.{Majority}
-use Rattle.sl_stages.specs.declared.book.Majority.TheVariants as majority
+use Rattle.sl_base_quotients.specs.declared.method.Method.{Method}
+use Rattle.sl_base_quotients.specs.declared.method.Method.TheVariants as by
+use Rattle.sl_law_meaning.specs.declared.book.Majority.{Majority}
+use Rattle.sl_law_meaning.specs.declared.book.Majority.TheVariants as majority
 use Rattle.sl_base_terms.specs.declared.shape.Shape.TheVariants as shape
-use Rattle.sl_stages.specs.declared.fact.Fact.{Fact}
-use Rattle.sl_stages.specs.declared.fact.Fact.TheVariants as facts
-use Rattle.sl_stages.specs.declared.fault.Scope.TheVariants as scope
-use Rattle.sl_stages.specs.declared.fault.Item.TheVariants as item
-use Rattle.sl_stages.specs.declared.returns.Win.{Win}
-use Rattle.sl_stages.specs.book.Trees.{fact, name, split, without, BookTree}
-use Rattle.sl_stages.specs.returns.Election.{Election, IsElection, IsWin, lands_of, parties_of, has_list}
-use Rattle.sl_stages.specs.returns.Facts.{lands, parties, lists_of, list_cell, is_in, is_on_list}
-use Rattle.sl_stages.specs.meaning.Columns.{IsLeaf, is_column_of, fact_column}
-use Rattle.sl_stages.specs.methods.Field.{no_minima}
-use Rattle.sl_stages.specs.meaning.Scopes.{Group, place, cells, scopes, entries_of, lists_of_party}
-use Rattle.sl_stages.specs.meaning.Splits.{IsAllocation}
-use Rattle.sl_stages.specs.meaning.Means.{Known, Through, nothing_known, context_of, with_stage, StagesMean}
-use Rattle.sl_stages.proofs.meaning.DistinctLists.{every_weaker, always}
+use Rattle.sl_law_meaning.specs.declared.fact.Fact.{Fact}
+use Rattle.sl_law_meaning.specs.declared.fact.Fact.TheVariants as facts
+use Rattle.sl_law_meaning.specs.declared.fault.Scope.TheVariants as scope
+use Rattle.sl_law_meaning.specs.declared.fault.Item.TheVariants as item
+use Rattle.sl_law_meaning.specs.declared.election.Win.{Win}
+use Rattle.sl_law_meaning.specs.book.Trees.{fact, name, split, without, BookTree}
+use Rattle.sl_law_meaning.specs.returns.Election.{Election, IsElection, IsWin, lands_of, parties_of, has_list}
+use Rattle.sl_law_meaning.specs.returns.Facts.{lands, parties, lists_of, list_cell, is_in, is_on_list}
+use Rattle.sl_law_meaning.specs.meaning.Columns.{IsLeaf, is_column_of, fact_column}
+use Rattle.sl_law_meaning.specs.methods.Field.{no_minima}
+use Rattle.sl_law_meaning.specs.meaning.Scopes.{Group, place, cells, scopes, entries_of, lists_of_party}
+use Rattle.sl_law_meaning.specs.meaning.Splits.{IsAllocation}
+use Rattle.sl_law_meaning.specs.meaning.Means.{Known, Through, nothing_known, context_of, with_stage, StagesMean}
+use Rattle.sl_law_meaning.proofs.meaning.DistinctLists.{every_weaker, always}
 use Rattle.sl_law_fairness.specs.Winners.{base_seats, outside, independents}
 use Rattle.sl_law_fairness.specs.Amounts.{ComesToColumn, sum_in, KeepsMajorities}
 use Rattle.sl_law_fairness.proofs.ListColumns.{sum_agree, sum_mapped, sum_pieces}

@@ -5,9 +5,9 @@ use Rattle.std.specs.List.{AllByRecursion as Every, range_with_len}
 use Rattle.std.proofs.lemmas.Bool.{cases_Bool, cases_lt, cases_eq, cond-true, cond-false, eq-eqb, ne_eqb}
 use Rattle.std.proofs.lemmas.List.Elements.{All-head, All-tail}
 use Rattle.std.proofs.lemmas.List.Sums.{sum_by-cons}
-use Rattle.sl_stages.specs.declared.returns.Win.{Win}
-use Rattle.sl_stages.specs.returns.Facts.{is_in}
-use Rattle.sl_stages.proofs.meaning.DistinctLists.{every_weaker, always}
+use Rattle.sl_law_meaning.specs.declared.election.Win.{Win}
+use Rattle.sl_law_meaning.specs.returns.Facts.{is_in}
+use Rattle.sl_law_meaning.proofs.meaning.DistinctLists.{every_weaker, always}
 use Rattle.sl_law_fairness.proofs.ListColumns.{sum_agree}
 
 pub every_of : {X : Type 0} (P : X → Type 0) (xs : List X) → All P xs → Every P xs

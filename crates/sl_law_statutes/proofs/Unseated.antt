@@ -7,22 +7,22 @@ use Rattle.std.proofs.lemmas.Option.{same_Some}
 use Rattle.std.proofs.lemmas.List.{length-map}
 use Rattle.std.proofs.lemmas.List.FromFn.{length-enumerate_from}
 use Rattle.std.proofs.lemmas.List.Sums.{sum_by-cons}
-use Rattle.sl_stages.specs.declared.book.Seating.TheVariants as seating
-use Rattle.sl_stages.specs.declared.returns.Win.{Win}
-use Rattle.sl_stages.specs.declared.table.Outcome.TheVariants as outcome
-use Rattle.sl_stages.specs.declared.table.Placed.{Placed}
-use Rattle.sl_stages.specs.declared.table.Placed.TheVariants as placed
-use Rattle.sl_stages.specs.book.Trees.{BookTree}
-use Rattle.sl_stages.specs.book.Typing.{is_typed}
-use Rattle.sl_stages.specs.returns.Election.{Election, IsElection, lands_of, parties_of, has_list}
-use Rattle.sl_stages.specs.returns.Facts.{lands, parties, lists_of, is_in, is_of, is_eligible, is_on_list}
-use Rattle.sl_stages.specs.meaning.Seating.{is_on, placed_on, kept_place, tie_of, covered_places, cover_table}
-use Rattle.sl_stages.specs.meaning.Means.{IsCovered}
-use Rattle.sl_stages.specs.laws.MeaningLaws.{IsListOf}
-use Rattle.sl_stages.proofs.FactReadings.{lists_are_named}
-use Rattle.sl_stages.proofs.meaning.CoveredWinners.{covered_winners, table_without_faults}
-use Rattle.sl_stages.proofs.meaning.DistinctLists.{every_weaker, always}
-use Rattle.sl_stages.proofs.meaning.PlacedWinners.{count_pairs, count_agree, kept_direct}
+use Rattle.sl_law_meaning.specs.declared.book.Seating.TheVariants as seating
+use Rattle.sl_law_meaning.specs.declared.election.Win.{Win}
+use Rattle.sl_law_meaning.specs.declared.table.Outcome.TheVariants as outcome
+use Rattle.sl_law_meaning.specs.declared.table.Placed.{Placed}
+use Rattle.sl_law_meaning.specs.declared.table.Placed.TheVariants as placed
+use Rattle.sl_law_meaning.specs.book.Trees.{BookTree}
+use Rattle.sl_law_meaning.specs.book.Typing.{is_typed}
+use Rattle.sl_law_meaning.specs.returns.Election.{Election, IsElection, lands_of, parties_of, has_list}
+use Rattle.sl_law_meaning.specs.returns.Facts.{lands, parties, lists_of, is_in, is_of, is_eligible, is_on_list}
+use Rattle.sl_law_meaning.specs.meaning.Seating.{is_on, placed_on, kept_place, tie_of, covered_places, cover_table}
+use Rattle.sl_law_meaning.specs.meaning.Means.{IsCovered}
+use Rattle.sl_law_meaning.specs.laws.MeaningLaws.{IsListOf}
+use Rattle.sl_law_meaning.proofs.FactReadings.{lists_are_named}
+use Rattle.sl_law_meaning.proofs.meaning.CoveredWinners.{covered_winners, table_without_faults}
+use Rattle.sl_law_meaning.proofs.meaning.DistinctLists.{every_weaker, always}
+use Rattle.sl_law_meaning.proofs.meaning.PlacedWinners.{count_pairs, count_agree, kept_direct}
 use Rattle.sl_law_fairness.specs.Winners.{base_seats, winners_on, outside, independents, IsCoveredPlace}
 use Rattle.sl_law_fairness.proofs.ListColumns.{sum_agree, sum_mapped, sum_pieces, are_lists}
 use Rattle.sl_law_fairness.proofs.Bases.{end_of, one_base}

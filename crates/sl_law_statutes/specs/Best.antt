@@ -1,13 +1,13 @@
 -- What the seats of the parties are best at by the statutes of 2023, whatever the offsets in their texts. The law is the contract of a function
 -- of `laws`.
 use Rattle.std.specs.Prelude.{ℕ, ◌-◌, List, sum}
-use Rattle.sl_ratio.specs.declared.method.Divisor.TheVariants.{Webster}
-use Rattle.sl_ratio.specs.Quotient.{AtMost}
-use Rattle.sl_stages.specs.declared.table.Outcome.TheVariants as outcome
-use Rattle.sl_stages.specs.book.Trees.{BookTree}
-use Rattle.sl_stages.specs.returns.Election.{Election, IsElection}
-use Rattle.sl_stages.specs.meaning.Tables.{SeatTable}
-use Rattle.sl_stages.specs.meaning.Means.{Means}
+use Rattle.sl_base_quotients.specs.declared.method.Divisor.TheVariants.{Webster}
+use Rattle.sl_base_quotients.specs.Quotient.{AtMost}
+use Rattle.sl_law_meaning.specs.declared.table.Outcome.TheVariants as outcome
+use Rattle.sl_law_meaning.specs.book.Trees.{BookTree}
+use Rattle.sl_law_meaning.specs.returns.Election.{Election, IsElection}
+use Rattle.sl_law_meaning.specs.meaning.Tables.{SeatTable}
+use Rattle.sl_law_meaning.specs.meaning.Means.{Means}
 use Rattle.sl_law_fairness.specs.Winners.{independents}
 use Rattle.sl_law_fairness.specs.Optimal.{IsGivenOut, deviations}
 use Rattle.sl_law_fairness.specs.Huntington.{IsLeastUnequal}

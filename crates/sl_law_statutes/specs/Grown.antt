@@ -1,21 +1,21 @@
 -- How the house grows by the statute of 2013, and how the parties stand to each other in it, whatever the offsets in its text. Each law is
 -- the contract of a function of `laws`.
 use Rattle.std.specs.Prelude.{◌≡◌, ℕ, ◌+◌, ◌-◌, ◌<◌, ◌≤◌, List, All, sum, slice_index, codes}
-use Rattle.sl_ratio.specs.declared.method.Divisor.TheVariants.{Webster}
+use Rattle.sl_base_quotients.specs.declared.method.Divisor.TheVariants.{Webster}
 use Rattle.sl_base_terms.specs.declared.shape.Shape.TheVariants as shape
-use Rattle.sl_stages.specs.declared.book.Axis.TheVariants as axis
-use Rattle.sl_stages.specs.declared.book.Pairing.TheVariants as pairings
-use Rattle.sl_stages.specs.declared.fact.Fact.TheVariants as facts
-use Rattle.sl_stages.specs.declared.table.Outcome.TheVariants as outcome
-use Rattle.sl_stages.specs.book.Trees.{name, BookTree}
-use Rattle.sl_stages.specs.returns.Election.{Election, IsElection, lands_of}
-use Rattle.sl_stages.specs.methods.Field.{InField, no_minima}
-use Rattle.sl_stages.specs.methods.Allocations.{IsDivisorAllocation}
-use Rattle.sl_stages.specs.methods.LeastHouse.{GrownTo, IsGrowth, IsGrownAllocation}
-use Rattle.sl_stages.specs.meaning.Columns.{IsLeaf, fact_column, pair_of, sum_over}
-use Rattle.sl_stages.specs.meaning.Scopes.{cells, entries_of, lists_in_land}
-use Rattle.sl_stages.specs.meaning.Tables.{SeatTable}
-use Rattle.sl_stages.specs.meaning.Means.{Known, Through, nothing_known, StagesMean, Means}
+use Rattle.sl_law_meaning.specs.declared.book.Axis.TheVariants as axis
+use Rattle.sl_law_meaning.specs.declared.book.Pairing.TheVariants as pairings
+use Rattle.sl_law_meaning.specs.declared.fact.Fact.TheVariants as facts
+use Rattle.sl_law_meaning.specs.declared.table.Outcome.TheVariants as outcome
+use Rattle.sl_law_meaning.specs.book.Trees.{name, BookTree}
+use Rattle.sl_law_meaning.specs.returns.Election.{Election, IsElection, lands_of}
+use Rattle.sl_law_meaning.specs.methods.Field.{InField, no_minima}
+use Rattle.sl_law_meaning.specs.methods.Allocations.{IsDivisorAllocation}
+use Rattle.sl_law_meaning.specs.methods.LeastHouse.{GrownTo, IsGrowth, IsGrownAllocation}
+use Rattle.sl_law_meaning.specs.meaning.Columns.{IsLeaf, fact_column, pair_of, sum_over}
+use Rattle.sl_law_meaning.specs.meaning.Scopes.{cells, entries_of, lists_in_land}
+use Rattle.sl_law_meaning.specs.meaning.Tables.{SeatTable}
+use Rattle.sl_law_meaning.specs.meaning.Means.{Known, Through, nothing_known, StagesMean, Means}
 use Rattle.sl_law_fairness.specs.ClosedHouse.{IsGreatestNeed}
 use Rattle.sl_law_fairness.specs.Parts.{part}
 use Rattle.sl_law_fairness.specs.Winners.{IsBase, overhang, outside, total_seats}

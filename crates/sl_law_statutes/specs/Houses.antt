@@ -1,10 +1,10 @@
 -- How large the house becomes by five statutes, whatever the offsets in their texts. Each law is the contract of a function of `laws`.
 use Rattle.std.specs.Prelude.{◌≡◌, ℕ, ◌+◌, ◌-◌, List, max, sum, unwrap_or}
-use Rattle.sl_stages.specs.declared.table.Outcome.TheVariants as outcome
-use Rattle.sl_stages.specs.book.Trees.{BookTree}
-use Rattle.sl_stages.specs.returns.Election.{Election, IsElection}
-use Rattle.sl_stages.specs.meaning.Tables.{SeatTable}
-use Rattle.sl_stages.specs.meaning.Means.{Means}
+use Rattle.sl_law_meaning.specs.declared.table.Outcome.TheVariants as outcome
+use Rattle.sl_law_meaning.specs.book.Trees.{BookTree}
+use Rattle.sl_law_meaning.specs.returns.Election.{Election, IsElection}
+use Rattle.sl_law_meaning.specs.meaning.Tables.{SeatTable}
+use Rattle.sl_law_meaning.specs.meaning.Means.{Means}
 use Rattle.sl_law_fairness.specs.Winners.{IsBase, overhang, outside, independents, total_seats}
 use Rattle.sl_law_statutes.specs.Trees.{law_of_1956, law_of_1985, law_of_2008, law_of_2023, law_of_2023_order}
 

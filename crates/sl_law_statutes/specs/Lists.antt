@@ -2,20 +2,20 @@
 -- the contract of a function of `laws`.
 use Rattle.std.specs.Prelude.{ℕ, ◌<◌, ◌≤◌, List, min}
 use Rattle.std.specs.List.{AllZip}
-use Rattle.sl_ratio.specs.declared.method.Divisor.TheVariants.{Webster}
-use Rattle.sl_stages.specs.declared.fact.Fact.TheVariants as facts
-use Rattle.sl_stages.specs.declared.returns.ListVotes.{ListVotes}
-use Rattle.sl_stages.specs.declared.returns.Lot.{Lot}
-use Rattle.sl_stages.specs.declared.table.Outcome.TheVariants as outcome
-use Rattle.sl_stages.specs.book.Trees.{BookTree}
-use Rattle.sl_stages.specs.returns.Election.{Election, IsElection, parties_of, with_list}
-use Rattle.sl_stages.specs.returns.Facts.{lists_of}
-use Rattle.sl_stages.specs.methods.Field.{no_minima}
-use Rattle.sl_stages.specs.methods.Allocations.{IsDivisorAllocation}
-use Rattle.sl_stages.specs.meaning.Columns.{fact_column}
-use Rattle.sl_stages.specs.meaning.Scopes.{cells, lists_of_party}
-use Rattle.sl_stages.specs.meaning.Tables.{SeatTable}
-use Rattle.sl_stages.specs.meaning.Means.{Means}
+use Rattle.sl_base_quotients.specs.declared.method.Divisor.TheVariants.{Webster}
+use Rattle.sl_law_meaning.specs.declared.fact.Fact.TheVariants as facts
+use Rattle.sl_law_meaning.specs.declared.election.ListVotes.{ListVotes}
+use Rattle.sl_law_meaning.specs.declared.election.Lot.{Lot}
+use Rattle.sl_law_meaning.specs.declared.table.Outcome.TheVariants as outcome
+use Rattle.sl_law_meaning.specs.book.Trees.{BookTree}
+use Rattle.sl_law_meaning.specs.returns.Election.{Election, IsElection, parties_of, with_list}
+use Rattle.sl_law_meaning.specs.returns.Facts.{lists_of}
+use Rattle.sl_law_meaning.specs.methods.Field.{no_minima}
+use Rattle.sl_law_meaning.specs.methods.Allocations.{IsDivisorAllocation}
+use Rattle.sl_law_meaning.specs.meaning.Columns.{fact_column}
+use Rattle.sl_law_meaning.specs.meaning.Scopes.{cells, lists_of_party}
+use Rattle.sl_law_meaning.specs.meaning.Tables.{SeatTable}
+use Rattle.sl_law_meaning.specs.meaning.Means.{Means}
 use Rattle.sl_law_fairness.specs.Winners.{IsBase, IsLine, base_seats, winners_on}
 use Rattle.sl_law_statutes.specs.Trees.{law_of_2013, law_of_2023, law_of_2023_order}
 use Rattle.sl_law_statutes.specs.Parties.{party_seats, IsGain}

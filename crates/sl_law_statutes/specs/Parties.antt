@@ -1,22 +1,22 @@
 -- How the parties stand to each other by the statutes, and what more votes bring them, whatever the offsets in their texts. Each law is the
 -- contract of a function of `laws`.
 use Rattle.std.specs.Prelude.{◌≡◌, ℕ, ◌-◌, ◌<◌, ◌≤◌, List, Some, filter, sum, sum_by, nat_eq}
-use Rattle.sl_ratio.specs.declared.method.Divisor.TheVariants.{Webster}
-use Rattle.sl_stages.specs.declared.book.Axis.TheVariants as axis
-use Rattle.sl_stages.specs.declared.fact.Fact.TheVariants as facts
-use Rattle.sl_stages.specs.declared.returns.ListVotes.{ListVotes}
-use Rattle.sl_stages.specs.declared.returns.Lot.{Lot}
-use Rattle.sl_stages.specs.declared.table.Outcome.TheVariants as outcome
-use Rattle.sl_stages.specs.book.Trees.{BookTree}
-use Rattle.sl_stages.specs.returns.Votes.{IsListVotes}
-use Rattle.sl_stages.specs.returns.Election.{Election, IsElection, list_at, with_list}
-use Rattle.sl_stages.specs.returns.Facts.{by_party}
-use Rattle.sl_stages.specs.methods.Field.{no_minima}
-use Rattle.sl_stages.specs.methods.Allocations.{IsDivisorAllocation}
-use Rattle.sl_stages.specs.meaning.Columns.{sum_over, fact_column}
-use Rattle.sl_stages.specs.meaning.Scopes.{cells, lists_of_party}
-use Rattle.sl_stages.specs.meaning.Tables.{SeatTable}
-use Rattle.sl_stages.specs.meaning.Means.{Means}
+use Rattle.sl_base_quotients.specs.declared.method.Divisor.TheVariants.{Webster}
+use Rattle.sl_law_meaning.specs.declared.book.Axis.TheVariants as axis
+use Rattle.sl_law_meaning.specs.declared.fact.Fact.TheVariants as facts
+use Rattle.sl_law_meaning.specs.declared.election.ListVotes.{ListVotes}
+use Rattle.sl_law_meaning.specs.declared.election.Lot.{Lot}
+use Rattle.sl_law_meaning.specs.declared.table.Outcome.TheVariants as outcome
+use Rattle.sl_law_meaning.specs.book.Trees.{BookTree}
+use Rattle.sl_law_meaning.specs.returns.Votes.{IsListVotes}
+use Rattle.sl_law_meaning.specs.returns.Election.{Election, IsElection, list_at, with_list}
+use Rattle.sl_law_meaning.specs.returns.Facts.{by_party}
+use Rattle.sl_law_meaning.specs.methods.Field.{no_minima}
+use Rattle.sl_law_meaning.specs.methods.Allocations.{IsDivisorAllocation}
+use Rattle.sl_law_meaning.specs.meaning.Columns.{sum_over, fact_column}
+use Rattle.sl_law_meaning.specs.meaning.Scopes.{cells, lists_of_party}
+use Rattle.sl_law_meaning.specs.meaning.Tables.{SeatTable}
+use Rattle.sl_law_meaning.specs.meaning.Means.{Means}
 use Rattle.sl_law_fairness.specs.Winners.{independents}
 use Rattle.sl_law_statutes.specs.Trees.{law_of_2023, law_of_2023_order}
 use Rattle.sl_law_statutes.specs.Houses.{house_of}

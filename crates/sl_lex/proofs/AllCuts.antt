@@ -5,8 +5,8 @@ use Rattle.std.specs.Char.{is_ascii_digit}
 use Rattle.std.specs.Option.{option_map}
 use Rattle.std.proofs.lemmas.Bool.{cases_eq, cases_lt}
 use Rattle.memchr.specs.Find.{is_byte}
-use Rattle.sl_ratio.specs.declared.limits.TheConstants.{MAX_NUMBER}
-use Rattle.sl_ratio.specs.declared.names.TheConstants.{MAX_NAME_BYTES}
+use Rattle.sl_base_quotients.specs.declared.limits.TheConstants.{MAX_NUMBER}
+use Rattle.sl_base_quotients.specs.declared.spelling.TheConstants.{MAX_NAME_BYTES}
 use Rattle.sl_lex.specs.declared.fault.LexFault.{LexFault}
 use Rattle.sl_lex.specs.declared.fault.LexFault.TheVariants.{BadByte, OpenString, BigNumber, LongName}
 use Rattle.sl_lex.specs.declared.token.Kind.{Kind}

@@ -8,8 +8,8 @@ use Rattle.std.proofs.lemmas.List.Sums.{prefix_len-le-length, position_or_len_is
 use Rattle.std.specs.Char.{is_ascii_digit}
 use Rattle.memchr.specs.Find.{is_byte, IsFirstByte, Nowhere, Passes}
 use Rattle.sl_lex.specs.declared.keyword.Keyword.{Keyword}
-use Rattle.sl_ratio.specs.declared.limits.TheConstants.{MAX_NUMBER}
-use Rattle.sl_ratio.specs.declared.names.TheConstants.{MAX_NAME_BYTES}
+use Rattle.sl_base_quotients.specs.declared.limits.TheConstants.{MAX_NUMBER}
+use Rattle.sl_base_quotients.specs.declared.spelling.TheConstants.{MAX_NAME_BYTES}
 use Rattle.sl_lex.specs.declared.token.Kind.TheVariants as kinds
 use Rattle.sl_lex.specs.declared.fault.LexFault.TheVariants.{OpenString, BigNumber, LongName}
 use Rattle.sl_lex.specs.Keywords.{keyword_of}

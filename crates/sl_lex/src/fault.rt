@@ -3,7 +3,7 @@
 ghost use Rattle.std.specs.Prelude.{◌≡◌};
 ghost use Rattle.sl_lex.specs.declared.fault.LexFault.TheVariants.{NoMemory};
 
-use sl_ratio::{MAX_NAME_BYTES, MAX_NUMBER};
+use sl_base_quotients::{MAX_NAME_BYTES, MAX_NUMBER};
 use std::alloc::AllocFailed;
 use thiserror::Error;
 

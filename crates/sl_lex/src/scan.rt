@@ -12,7 +12,7 @@ use crate::fault::LexFault;
 use crate::keyword::Keyword;
 use crate::token::{Kind, Mark, Token};
 use memchr::memchr;
-use sl_ratio::{MAX_NAME_BYTES, MAX_NUMBER};
+use sl_base_quotients::{MAX_NAME_BYTES, MAX_NUMBER};
 use std::alloc::Global;
 
 /// What a byte may begin.

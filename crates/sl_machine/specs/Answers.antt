@@ -1,6 +1,6 @@
 -- What a run answers: the ending, with what is held in the last state (docs/machine.md, section 1).
 use Rattle.std.specs.Prelude.{Option, Some, None}
-use Rattle.sl_stages.specs.returns.Election.{Election}
+use Rattle.sl_law_meaning.specs.returns.Election.{Election}
 use Rattle.sl_code_instructions.specs.Codes.{CountingCode}
 use Rattle.sl_machine.specs.declared.machine.Ending.{Ending as Answer}
 use Rattle.sl_machine.specs.declared.machine.Ending.TheVariants as answer

@@ -1,8 +1,8 @@
 //! Runs of a code on returns.
 
 ghost use Rattle.std.specs.Prelude.{◌≡◌, ◌<◌, ◌≤◌, ◌⊎◌, Some, length, slice_get, IfOk, IfSome, IfNone, ◌+◌, ◌*◌};
-ghost use Rattle.sl_ratio.specs.declared.limits.TheConstants.{MAX_SEATS as most_seats, MAX_LANDS, MAX_PARTIES};
-ghost use Rattle.sl_stages.specs.declared.limits.TheConstants.{MAX_WINS};
+ghost use Rattle.sl_base_quotients.specs.declared.limits.TheConstants.{MAX_SEATS as most_seats, MAX_LANDS, MAX_PARTIES};
+ghost use Rattle.sl_law_meaning.specs.declared.limits.TheConstants.{MAX_WINS};
 ghost use Rattle.sl_base_terms.specs.declared.limits.TheConstants.{MAX_STAGES};
 ghost use Rattle.sl_code_semantics.specs.Agrees.{IsSafe};
 ghost use Rattle.sl_machine.specs.Answers.{answer_of};
@@ -17,10 +17,10 @@ ghost use Rattle.sl_machine.specs.inner.Ways.{IsWay};
 
 use crate::clock::Clock;
 use crate::way::{Standing, Way, first_of};
+use sl_base_quotients::NoMemory;
 use sl_code_instructions::{Code, Instr};
 use sl_code_semantics::{STEPS_EACH, Verified};
 use sl_code_steps::{Drops, Effect, End, Keeps, Memory, Recording, Store};
-use sl_ratio::NoMemory;
 use sl_stages::{LegalFault, MAX_SEATS, Returns};
 use std::alloc::Global;
 

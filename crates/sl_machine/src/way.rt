@@ -3,9 +3,9 @@
 ghost use Rattle.std.specs.Prelude.{◌≡◌, ◌<◌, ◌≤◌, ◌++◌, ◌∷◌, [], drop, length, IfOk, OnOk};
 ghost use Rattle.sl_machine.specs.inner.Ways.{is_idle, standing_from, IsWay};
 
+use sl_base_quotients::NoMemory;
 use sl_code_instructions::{Code, Instr};
 use sl_code_steps::{Recording, Records};
-use sl_ratio::NoMemory;
 use std::alloc::Global;
 
 /// An instruction, and the place of the code at which it stands.

@@ -2,7 +2,7 @@
 use Rattle.std.proofs.Common.{◌≡◌, ◌<◌, ℕ, List, None, sym, subst, ◌∙◌}
 use Rattle.sl_count_calls.specs.Judged.{IsJudged}
 use Rattle.sl_count_calls.specs.declared.judged.Judged.{Judged}
-use Rattle.sl_stages.specs.declared.count.Records.TheVariants.{Kept}
+use Rattle.sl_law_meaning.specs.declared.count.Records.TheVariants.{Kept}
 use Rattle.sl_count_calls.specs.Counting.{IsOutput, ShowsSeats}
 use Rattle.sl_count_calls.specs.Steps.{ShowsSteps}
 use Rattle.sl_count_inputs.specs.Books.{text}

@@ -4,10 +4,10 @@ use Rattle.sl_report_tables.specs.Ends.{end_status}
 use Rattle.sl_count_calls.specs.Judged.{IsJudged}
 use Rattle.sl_count_calls.specs.declared.judged.Judged.TheVariants as judged
 use Rattle.sl_count_calls.specs.declared.judged.Judged.{Judged}
-use Rattle.sl_stages.specs.meaning.Counts.{IsMeantEnd}
-use Rattle.sl_stages.specs.declared.count.End.TheVariants as ends
-use Rattle.sl_stages.specs.declared.count.End.{End}
-use Rattle.sl_stages.specs.declared.count.Records.TheVariants.{Kept}
+use Rattle.sl_law_meaning.specs.meaning.Counts.{IsMeantEnd}
+use Rattle.sl_law_meaning.specs.declared.count.End.TheVariants as ends
+use Rattle.sl_law_meaning.specs.declared.count.End.{End}
+use Rattle.sl_law_meaning.specs.declared.count.Records.TheVariants.{Kept}
 use Rattle.sl_count_calls.specs.Counting.{IsCount, IsOutput, IsTreeOutput, ShowsSeats}
 use Rattle.sl_count_calls.specs.Steps.{ShowsSteps}
 use Rattle.sl_count_calls.specs.Views.{IsAnswerOf}
@@ -25,9 +25,9 @@ use Rattle.sl_count_inputs.specs.declared.verdict.Verdict.TheVariants.{Good, Ref
 use Rattle.sl_count_inputs.specs.declared.verdict.Verdict.{Verdict}
 use Rattle.sl_page_calls.specs.inner.Parts.{AreTablesOf}
 use Rattle.sl_report_commands.specs.Statuses.{judged_status}
-use Rattle.sl_stages.specs.book.Trees.{BookTree}
-use Rattle.sl_stages.specs.meaning.Tables.{SeatTable}
-use Rattle.sl_stages.specs.returns.Election.{Election}
+use Rattle.sl_law_meaning.specs.book.Trees.{BookTree}
+use Rattle.sl_law_meaning.specs.meaning.Tables.{SeatTable}
+use Rattle.sl_law_meaning.specs.returns.Election.{Election}
 use Rattle.sl_count_texts.specs.Faults.{fault_text}
 use Rattle.sl_count_texts.specs.Short.{short_text}
 

@@ -2,7 +2,7 @@
 use Rattle.std.specs.Prelude.{List, None, Option, Some, [], ◌<◌, ◌≡◌, ℕ}
 use Rattle.sl_count_calls.specs.Judged.{IsJudged}
 use Rattle.sl_count_calls.specs.declared.judged.Judged.{Judged}
-use Rattle.sl_stages.specs.declared.count.Records.TheVariants.{Dropped}
+use Rattle.sl_law_meaning.specs.declared.count.Records.TheVariants.{Dropped}
 use Rattle.sl_desk.specs.JudgedRuns.{IsJudged as IsJudgedRun}
 use Rattle.sl_desk.specs.declared.calls.run.JudgedRun.TheVariants as run
 use Rattle.sl_desk.specs.declared.calls.run.JudgedRun.{JudgedRun}
@@ -19,7 +19,7 @@ use Rattle.sl_count_inputs.specs.declared.verdict.Verdict.{Verdict}
 use Rattle.sl_machine.specs.declared.machine.Ending.TheVariants as ending
 use Rattle.sl_machine.specs.declared.machine.Ending.{Ending}
 use Rattle.sl_report_commands.specs.Statuses.{judged_status}
-use Rattle.sl_stages.specs.declared.checked.CheckedBook.{CheckedBook}
+use Rattle.sl_law_meaning.specs.declared.checked.CheckedBook.{CheckedBook}
 
 -- the status of `check`
 abbrev pub check_status : Verdict CheckedBook RefusedBook → Status

@@ -6,8 +6,8 @@ ghost use Rattle.sl_page_calls.specs.Coding.{AreCodeEnds};
 ghost use Rattle.sl_page_calls.specs.inner.Codes.{HoldsCode};
 
 use crate::taken::{NO_MEMORY, put};
+use sl_base_quotients::NoMemory;
 use sl_desk::Compilation;
-use sl_ratio::NoMemory;
 use std::alloc::Global;
 
 /// Where the two parts end in the room of `page_code`. The file begins with the room, and the text where the file ends.

@@ -5,8 +5,8 @@ ghost use Rattle.std.specs.Str.Lines.{lines};
 ghost use Rattle.sl_count_inputs.specs.Judging.{input_of};
 ghost use Rattle.sl_page_calls.specs.Reporting.{IsCompared, input_by, named_by, named_of};
 
+use sl_base_quotients::NoMemory;
 use sl_desk::BookText;
-use sl_ratio::NoMemory;
 use sl_report_commands::{Named, Style, Written, compare};
 use std::alloc::Global;
 

@@ -1,7 +1,7 @@
 //! The parts of all that is shown of a rulebook on returns, and where they end one after another.
 
+use sl_base_quotients::NoMemory;
 use sl_desk::Status;
-use sl_ratio::NoMemory;
 use std::alloc::Global;
 
 /// Where each part ends in the room of `page_show`. The first begins with the room, and each other one where the one before it ends.

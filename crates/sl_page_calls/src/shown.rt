@@ -2,7 +2,7 @@
 
 ghost use Rattle.std.specs.Prelude.{◌≡◌, ◌<◌, IfOk, length};
 ghost use Rattle.sl_count_calls.specs.Fitting.{FitsJudged};
-ghost use Rattle.sl_stages.specs.declared.count.Records.TheVariants.{Kept};
+ghost use Rattle.sl_law_meaning.specs.declared.count.Records.TheVariants.{Kept};
 ghost use Rattle.sl_count_inputs.specs.Statuses.{status_number};
 ghost use Rattle.sl_report_commands.specs.Digests.{digests, summed_digests};
 ghost use Rattle.sl_page_calls.specs.Showing.{AreEnds};
@@ -11,11 +11,11 @@ ghost use Rattle.sl_page_calls.specs.inner.Parts.{ArePartsOf, AreTablesOf, Hold}
 use crate::parts::{PartEnds, Parts};
 use crate::taken::{NO_MEMORY, put};
 use crate::told::explanation_text;
+use sl_base_quotients::NoMemory;
 use sl_count_calls::{Judged, View, answer_of};
 use sl_desk::Status;
 use sl_explain_calls::{Explained, explain_judged};
 use sl_explain_texts::Language;
-use sl_ratio::NoMemory;
 use sl_report_commands::{
     Answer, DigestedInput, FullNames, Show, Style, Texts, Told, answer_judged, digested,
     digested_unjudged, names_of, push_digested, text_of, told_of, totals_judged,

@@ -4,8 +4,8 @@ ghost use Rattle.std.specs.Prelude.{◌≡◌, ◌<◌, ◌≤◌, Some, Ok, [],
 ghost use Rattle.sl_count_inputs.specs.Statuses.{status_number};
 ghost use Rattle.sl_report_commands.specs.declared.written.Written.{Written};
 
+use sl_base_quotients::NoMemory;
 use sl_desk::{DeskError, Failed, Sink, Status};
-use sl_ratio::NoMemory;
 use sl_report_commands::Written;
 use std::alloc::Global;
 

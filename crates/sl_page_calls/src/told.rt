@@ -10,6 +10,7 @@ ghost use Rattle.sl_page_calls.specs.Telling.{Explains, check_status, ending_sta
 ghost use Rattle.sl_report_commands.specs.Statuses.{judged_status};
 
 use crate::taken::{NO_MEMORY, put};
+use sl_base_quotients::NoMemory;
 use sl_check::CheckedBook;
 use sl_count_calls::{End, Judged};
 use sl_desk::{Input, JudgedRun, ReadRun, RefusedBook, Status, Verdict};
@@ -17,7 +18,6 @@ use sl_explain_calls::{Explained, explain_judged, explain_run, explain_verdict};
 use sl_explain_codes::text_about;
 use sl_explain_texts::{FaultCode, LANGUAGES, Language, written};
 use sl_machine::Ending;
-use sl_ratio::NoMemory;
 use sl_report_commands::Texts;
 use std::alloc::Global;
 

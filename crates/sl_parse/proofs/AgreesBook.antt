@@ -4,14 +4,14 @@ use Rattle.sl_lex.specs.declared.keyword.Keyword.TheVariants as keywords
 use Rattle.sl_lex.specs.declared.token.Kind.{Kind}
 use Rattle.sl_lex.specs.declared.token.Kind.TheVariants as kinds
 use Rattle.sl_lex.specs.declared.token.Token.{Token}
-use Rattle.sl_stages.specs.declared.book.Base.{Base}
-use Rattle.sl_stages.specs.declared.book.Base.TheVariants as bases
-use Rattle.sl_stages.specs.declared.book.Cond.{Cond}
-use Rattle.sl_stages.specs.declared.book.Cond.TheVariants as conditions
-use Rattle.sl_stages.specs.declared.book.LastClause.{LastClause}
-use Rattle.sl_stages.specs.declared.book.Number.{Number}
-use Rattle.sl_stages.specs.book.Trees.{StageTree, BookTree}
-use Rattle.sl_stages.specs.book.Limits.{parts_of}
+use Rattle.sl_law_meaning.specs.declared.book.Base.{Base}
+use Rattle.sl_law_meaning.specs.declared.book.Base.TheVariants as bases
+use Rattle.sl_law_meaning.specs.declared.book.Cond.{Cond}
+use Rattle.sl_law_meaning.specs.declared.book.Cond.TheVariants as conditions
+use Rattle.sl_law_meaning.specs.declared.book.LastClause.{LastClause}
+use Rattle.sl_law_meaning.specs.declared.book.Number.{Number}
+use Rattle.sl_law_meaning.specs.book.Trees.{StageTree, BookTree}
+use Rattle.sl_law_meaning.specs.book.Limits.{parts_of}
 use Rattle.sl_parse.specs.Words.{same_kind}
 use Rattle.sl_parse.specs.declared.fault.Cause.TheVariants.{TooManyStages}
 use Rattle.sl_parse.specs.Grammar.{token, one_token, keyword, semicolon, IsStage, AreStages, IsCondition, AreMore, AreConditions, HeadTree, IsHead, IsBase, IsVacate, IsLast, IsBook}

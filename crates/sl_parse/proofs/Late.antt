@@ -5,8 +5,8 @@ use Rattle.sl_lex.specs.declared.keyword.Keyword.TheVariants as keywords
 use Rattle.sl_lex.specs.declared.token.Kind.{Kind}
 use Rattle.sl_lex.specs.declared.token.Kind.TheVariants as kinds
 use Rattle.sl_lex.specs.declared.token.Token.{Token}
-use Rattle.sl_stages.specs.book.Trees.{ExprTree, StageTree}
-use Rattle.sl_stages.specs.book.Limits.{parts_of}
+use Rattle.sl_law_meaning.specs.book.Trees.{ExprTree, StageTree}
+use Rattle.sl_law_meaning.specs.book.Limits.{parts_of}
 use Rattle.sl_parse.specs.declared.fault.Cause.{Cause}
 use Rattle.sl_parse.specs.declared.fault.Cause.TheVariants.{TooDeep, TooManyStages}
 use Rattle.sl_parse.specs.declared.form.Form.{Form}

@@ -10,7 +10,7 @@ use Rattle.sl_lex.specs.declared.token.Kind.TheVariants as kinds
 use Rattle.sl_lex.specs.declared.token.Token.{Token}
 use Rattle.sl_lex.specs.Pieces.{IsLetter, IsWordByte, IsPiece, word}
 use Rattle.sl_parse.specs.Spans.{bytes_of, FitsKind, IsSpan, AreSpans}
-use Rattle.sl_ratio.specs.declared.names.TheConstants.{MAX_NAME_BYTES}
+use Rattle.sl_base_quotients.specs.declared.spelling.TheConstants.{MAX_NAME_BYTES}
 use Rattle.sl_base_terms.specs.Words.{is_letter, is_digit, is_word}
 
 letter : (b : ℕ) → IsLetter b → is_letter b ≡ true

@@ -4,10 +4,10 @@ use Rattle.std.proofs.lemmas.Bool.{and_from, and_parts, le-leb, leb-true}
 use Rattle.std.specs.Prelude.{nat_le, IsTrue}
 use Rattle.std.specs.List.{list_all}
 use Rattle.sl_lex.specs.declared.token.Token.{Token}
-use Rattle.sl_stages.specs.declared.limits.TheConstants.{MAX_DEPTH, MAX_PARTS}
+use Rattle.sl_law_meaning.specs.declared.limits.TheConstants.{MAX_DEPTH, MAX_PARTS}
 use Rattle.sl_base_terms.specs.declared.limits.TheConstants.{MAX_STAGES}
-use Rattle.sl_stages.specs.book.Trees.{StageTree, BookTree}
-use Rattle.sl_stages.specs.book.Limits.{depth_of, parts_of, is_within_stage, is_within_limits}
+use Rattle.sl_law_meaning.specs.book.Trees.{StageTree, BookTree}
+use Rattle.sl_law_meaning.specs.book.Limits.{depth_of, parts_of, is_within_stage, is_within_limits}
 use Rattle.sl_parse.specs.declared.fault.Cause.{Cause}
 use Rattle.sl_parse.specs.Grammar.{IsBook}
 use Rattle.sl_parse.specs.Faults.{Limits}

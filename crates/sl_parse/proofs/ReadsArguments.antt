@@ -5,11 +5,11 @@ use Rattle.sl_lex.specs.declared.keyword.Keyword.TheVariants as keywords
 use Rattle.sl_lex.specs.declared.token.Mark.TheVariants as marks
 use Rattle.sl_lex.specs.declared.token.Kind.TheVariants as kinds
 use Rattle.sl_lex.specs.declared.token.Token.{Token}
-use Rattle.sl_stages.specs.declared.book.Pairing.{Pairing}
-use Rattle.sl_stages.specs.declared.book.Majority.{Majority}
-use Rattle.sl_stages.specs.declared.book.Majority.TheVariants as majorities
-use Rattle.sl_stages.specs.book.Trees.{ExprTree, MinimaTree, sum, pair, split, without, atleast, grow}
-use Rattle.sl_stages.specs.book.Limits.{depth_of, parts_of}
+use Rattle.sl_law_meaning.specs.declared.book.Pairing.{Pairing}
+use Rattle.sl_law_meaning.specs.declared.book.Majority.{Majority}
+use Rattle.sl_law_meaning.specs.declared.book.Majority.TheVariants as majorities
+use Rattle.sl_law_meaning.specs.book.Trees.{ExprTree, MinimaTree, sum, pair, split, without, atleast, grow}
+use Rattle.sl_law_meaning.specs.book.Limits.{depth_of, parts_of}
 use Rattle.sl_parse.specs.declared.form.Form.{Form}
 use Rattle.sl_parse.specs.declared.form.Form.TheVariants as forms
 use Rattle.sl_parse.specs.Words.{same_kind, method_word, first_kind}

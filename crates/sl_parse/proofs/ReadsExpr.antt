@@ -1,8 +1,8 @@
 -- What is read as an expression is in the grammar and within the limits, and the machine goes along.
 use Rattle.std.proofs.Common.{◌≡◌, ℕ, zero, suc, Bool, true, false, cond, List, [], ◌∷◌, Option, Some, None, Err, refl, sym, ◌⊎◌, inl, inr, arith}
 use Rattle.sl_lex.specs.declared.token.Token.{Token}
-use Rattle.sl_stages.specs.book.Trees.{ExprTree, fact, name}
-use Rattle.sl_stages.specs.book.Limits.{depth_of, parts_of}
+use Rattle.sl_law_meaning.specs.book.Trees.{ExprTree, fact, name}
+use Rattle.sl_law_meaning.specs.book.Limits.{depth_of, parts_of}
 use Rattle.sl_parse.specs.declared.fault.Cause.TheVariants.{Expected, TooDeep}
 use Rattle.sl_parse.specs.declared.form.Form.{Form}
 use Rattle.sl_parse.specs.declared.form.Form.TheVariants as forms

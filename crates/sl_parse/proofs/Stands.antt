@@ -8,7 +8,7 @@ use Rattle.sl_lex.specs.declared.token.Mark.TheVariants as marks
 use Rattle.sl_lex.specs.declared.token.Kind.{Kind}
 use Rattle.sl_lex.specs.declared.token.Kind.TheVariants as kinds
 use Rattle.sl_lex.specs.declared.token.Token.{Token}
-use Rattle.sl_stages.specs.book.Trees.{BookTree}
+use Rattle.sl_law_meaning.specs.book.Trees.{BookTree}
 use Rattle.sl_parse.specs.declared.fault.Cause.{Cause}
 use Rattle.sl_parse.specs.declared.fault.Cause.TheVariants.{Expected, TooDeep, TooManyStages, After}
 use Rattle.sl_parse.specs.Grammar.{IsBook}

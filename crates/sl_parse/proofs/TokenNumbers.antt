@@ -9,16 +9,16 @@ use Rattle.std.specs.List.{list_all}
 use Rattle.sl_lex.specs.declared.token.Kind.{Kind}
 use Rattle.sl_lex.specs.declared.token.Kind.TheVariants as kinds
 use Rattle.sl_lex.specs.declared.token.Token.{Token}
-use Rattle.sl_ratio.specs.declared.limits.TheConstants.{MAX_NUMBER}
+use Rattle.sl_base_quotients.specs.declared.limits.TheConstants.{MAX_NUMBER}
 use Rattle.sl_base_terms.specs.declared.limits.TheConstants.{MAX_STAGES}
-use Rattle.sl_stages.specs.declared.book.Number.{Number}
-use Rattle.sl_stages.specs.declared.book.Cond.{Cond}
-use Rattle.sl_stages.specs.declared.book.Cond.TheVariants as conditions
-use Rattle.sl_stages.specs.declared.book.LastClause.{LastClause}
-use Rattle.sl_stages.specs.declared.book.Majority.{Majority}
-use Rattle.sl_stages.specs.declared.book.Majority.TheVariants as majorities
-use Rattle.sl_stages.specs.book.Trees.{ExprTree, fact, name, sum, pair, split, without, atleast, grow, StageTree}
-use Rattle.sl_stages.specs.book.Limits.{numbers_of, condition_numbers, book_numbers, are_small}
+use Rattle.sl_law_meaning.specs.declared.book.Number.{Number}
+use Rattle.sl_law_meaning.specs.declared.book.Cond.{Cond}
+use Rattle.sl_law_meaning.specs.declared.book.Cond.TheVariants as conditions
+use Rattle.sl_law_meaning.specs.declared.book.LastClause.{LastClause}
+use Rattle.sl_law_meaning.specs.declared.book.Majority.{Majority}
+use Rattle.sl_law_meaning.specs.declared.book.Majority.TheVariants as majorities
+use Rattle.sl_law_meaning.specs.book.Trees.{ExprTree, fact, name, sum, pair, split, without, atleast, grow, StageTree}
+use Rattle.sl_law_meaning.specs.book.Limits.{numbers_of, condition_numbers, book_numbers, are_small}
 use Rattle.sl_parse.specs.Spans.{bytes_of, FitsKind, AreSpans}
 use Rattle.sl_parse.specs.Grammar.{◌▸◌, Part, empty, one_token, token, number, IsMajority, IsRefusal, IsExpr, AreStages, IsCondition, AreMore, AreConditions, HeadTree, IsHead}
 use Rattle.sl_parse.specs.Parsing.{limits}

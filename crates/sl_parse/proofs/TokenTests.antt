@@ -4,27 +4,27 @@ use Rattle.std.specs.Prelude.{codes, ◌&&◌, slice_range, ◌+◌, ◌-◌}
 use Rattle.std.specs.Str.{bytes_eq}
 use Rattle.std.proofs.lemmas.Bool.{and_parts}
 use Rattle.std.proofs.lemmas.Slice.Eq.{bytes_eq-Decides}
-use Rattle.sl_ratio.specs.declared.method.Divisor.TheVariants as divisors
-use Rattle.sl_ratio.specs.declared.method.Method.{Method}
-use Rattle.sl_ratio.specs.declared.method.Method.TheVariants as methods
+use Rattle.sl_base_quotients.specs.declared.method.Divisor.TheVariants as divisors
+use Rattle.sl_base_quotients.specs.declared.method.Method.{Method}
+use Rattle.sl_base_quotients.specs.declared.method.Method.TheVariants as methods
 use Rattle.sl_lex.specs.declared.keyword.Keyword.TheVariants as keywords
 use Rattle.sl_lex.specs.declared.token.Kind.{Kind}
 use Rattle.sl_lex.specs.declared.token.Kind.TheVariants as kinds
 use Rattle.sl_lex.specs.declared.token.Token.{Token}
 use Rattle.sl_parse.specs.Spans.{bytes_of}
-use Rattle.sl_stages.specs.declared.fact.Fact.TheVariants as facts
-use Rattle.sl_stages.specs.declared.book.Pairing.TheVariants as pairings
+use Rattle.sl_law_meaning.specs.declared.fact.Fact.TheVariants as facts
+use Rattle.sl_law_meaning.specs.declared.book.Pairing.TheVariants as pairings
 use Rattle.sl_parse.specs.declared.form.Form.{Form}
 use Rattle.sl_parse.specs.declared.form.Form.TheVariants as forms
-use Rattle.sl_stages.specs.declared.book.Axis.{Axis}
-use Rattle.sl_stages.specs.declared.book.Axis.TheVariants as axes
-use Rattle.sl_stages.specs.declared.book.Base.{Base}
-use Rattle.sl_stages.specs.declared.book.Base.TheVariants as bases
-use Rattle.sl_stages.specs.declared.book.Majority.{Majority}
-use Rattle.sl_stages.specs.declared.book.Majority.TheVariants as majorities
-use Rattle.sl_stages.specs.declared.book.Number.{Number}
-use Rattle.sl_stages.specs.declared.book.Seating.{Seating}
-use Rattle.sl_stages.specs.declared.book.Seating.TheVariants as seatings
+use Rattle.sl_law_meaning.specs.declared.book.Axis.{Axis}
+use Rattle.sl_law_meaning.specs.declared.book.Axis.TheVariants as axes
+use Rattle.sl_law_meaning.specs.declared.book.Base.{Base}
+use Rattle.sl_law_meaning.specs.declared.book.Base.TheVariants as bases
+use Rattle.sl_law_meaning.specs.declared.book.Majority.{Majority}
+use Rattle.sl_law_meaning.specs.declared.book.Majority.TheVariants as majorities
+use Rattle.sl_law_meaning.specs.declared.book.Number.{Number}
+use Rattle.sl_law_meaning.specs.declared.book.Seating.{Seating}
+use Rattle.sl_law_meaning.specs.declared.book.Seating.TheVariants as seatings
 use Rattle.sl_parse.specs.Words.{same_kind, stands_for, axis_word, all_axes, axis_of, seating_word, all_seatings, seating_of, method_word, all_methods, method_of, first_kind, all_forms, form_of}
 use Rattle.sl_parse.specs.inner.Reading.{this, number_of, number_in, name_in, vacate_in, quoted_in, axis_in, seating_in, method_in, preference_of, preference_in, base_of, base_in}
 use Rattle.sl_lex.proofs.Words.{found_passes}

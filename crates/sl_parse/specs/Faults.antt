@@ -1,11 +1,11 @@
 -- Which fault tokens have, if they are no book within the limits (docs/language.md, section 2).
 use Rattle.std.specs.Prelude.{◌≡◌, ℕ, zero, suc, ◌+◌, ◌≤◌, Bool, true, false, List, [], ◌∷◌, ◌++◌, length, is_some, ◌⊎◌, IsTrue}
-use Rattle.sl_ratio.specs.declared.method.Method.{Method}
+use Rattle.sl_base_quotients.specs.declared.method.Method.{Method}
 use Rattle.sl_lex.specs.declared.keyword.Keyword.TheVariants as keywords
 use Rattle.sl_lex.specs.declared.token.Kind.{Kind}
 use Rattle.sl_lex.specs.declared.token.Token.{Token}
-use Rattle.sl_stages.specs.book.Trees.{ExprTree, StageTree, BookTree}
-use Rattle.sl_stages.specs.book.Limits.{parts_of}
+use Rattle.sl_law_meaning.specs.book.Trees.{ExprTree, StageTree, BookTree}
+use Rattle.sl_law_meaning.specs.book.Limits.{parts_of}
 use Rattle.sl_parse.specs.declared.fault.Cause.{Cause}
 use Rattle.sl_parse.specs.declared.fault.Cause.TheVariants.{Expected, TooDeep, TooManyStages, After}
 use Rattle.sl_parse.specs.declared.form.Form.{Form}

@@ -8,15 +8,15 @@ use Rattle.sl_lex.specs.declared.token.Kind.TheVariants as kinds
 use Rattle.sl_lex.specs.declared.token.Token.{Token}
 use Rattle.sl_parse.specs.Spans.{bytes_of}
 use Rattle.sl_parse.specs.Words.{axis_word, method_word, seating_word, fact_word, pairing_word}
-use Rattle.sl_stages.specs.declared.book.Majority.{Majority}
-use Rattle.sl_stages.specs.declared.book.Majority.TheVariants as majorities
-use Rattle.sl_stages.specs.declared.book.Number.{Number}
-use Rattle.sl_stages.specs.declared.book.Cond.{Cond}
-use Rattle.sl_stages.specs.declared.book.Cond.TheVariants as conditions
-use Rattle.sl_stages.specs.declared.book.Base.{Base}
-use Rattle.sl_stages.specs.declared.book.Base.TheVariants as bases
-use Rattle.sl_stages.specs.declared.book.LastClause.{LastClause}
-use Rattle.sl_stages.specs.book.Trees.{ExprTree, fact, name, sum, pair, split, without, atleast, grow, StageTree, BookTree}
+use Rattle.sl_law_meaning.specs.declared.book.Majority.{Majority}
+use Rattle.sl_law_meaning.specs.declared.book.Majority.TheVariants as majorities
+use Rattle.sl_law_meaning.specs.declared.book.Number.{Number}
+use Rattle.sl_law_meaning.specs.declared.book.Cond.{Cond}
+use Rattle.sl_law_meaning.specs.declared.book.Cond.TheVariants as conditions
+use Rattle.sl_law_meaning.specs.declared.book.Base.{Base}
+use Rattle.sl_law_meaning.specs.declared.book.Base.TheVariants as bases
+use Rattle.sl_law_meaning.specs.declared.book.LastClause.{LastClause}
+use Rattle.sl_law_meaning.specs.book.Trees.{ExprTree, fact, name, sum, pair, split, without, atleast, grow, StageTree, BookTree}
 
 -- A part of a token list, given by the tokens from its first on and by those after it.
 abbrev pub Part : Type 1

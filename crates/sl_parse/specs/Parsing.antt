@@ -1,16 +1,16 @@
 -- What a parse answers (docs/language.md, section 2).
 use Rattle.std.specs.Prelude.{◌≡◌, ℕ, List, [], ◌∷◌, length, Result, Ok, Err, IsTrue}
 use Rattle.sl_lex.specs.declared.token.Token.{Token}
-use Rattle.sl_stages.specs.declared.limits.TheConstants.{MAX_DEPTH, MAX_PARTS}
+use Rattle.sl_law_meaning.specs.declared.limits.TheConstants.{MAX_DEPTH, MAX_PARTS}
 use Rattle.sl_base_terms.specs.declared.limits.TheConstants.{MAX_STAGES}
-use Rattle.sl_stages.specs.declared.book.Book.{Book}
-use Rattle.sl_stages.specs.book.Trees.{BookTree}
-use Rattle.sl_stages.specs.book.Books.{book_of}
+use Rattle.sl_law_meaning.specs.declared.book.Book.{Book}
+use Rattle.sl_law_meaning.specs.book.Trees.{BookTree}
+use Rattle.sl_law_meaning.specs.book.Books.{book_of}
 use Rattle.sl_parse.specs.declared.fault.Cause.{Cause}
 use Rattle.sl_parse.specs.declared.fault.Cause.TheVariants.{Expected, TooDeep, TooManyStages, After}
 use Rattle.sl_parse.specs.declared.fault.ParseFault.{ParseFault}
 use Rattle.sl_parse.specs.declared.fault.ParseFault.TheVariants as faults
-use Rattle.sl_stages.specs.book.Limits.{is_within_limits}
+use Rattle.sl_law_meaning.specs.book.Limits.{is_within_limits}
 use Rattle.sl_parse.specs.Grammar.{IsBook}
 use Rattle.sl_parse.specs.Faults.{Limits, IsFault}
 

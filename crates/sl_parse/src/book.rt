@@ -1,16 +1,16 @@
 //! Reading stages, the last clause, and a book.
 
 ghost use Rattle.std.specs.Prelude.{drop, map, IfOk, IsTrue};
-ghost use Rattle.sl_stages.specs.book.Trees.{stage_of};
-ghost use Rattle.sl_stages.specs.book.Limits.{is_within_limits};
+ghost use Rattle.sl_law_meaning.specs.book.Trees.{stage_of};
+ghost use Rattle.sl_law_meaning.specs.book.Limits.{is_within_limits};
 ghost use Rattle.sl_parse.specs.inner.Reading.{Gives, read_stage, read_stages, read_last, read_book};
-ghost use Rattle.sl_stages.specs.book.Books.{book_of};
+ghost use Rattle.sl_law_meaning.specs.book.Books.{book_of};
 ghost use Rattle.sl_parse.specs.Parsing.{limits};
 
 use crate::fault::{Cause, Stop};
 use crate::token::Parser;
+use sl_law_meaning::{Book, LastClause, MAX_DEPTH, MAX_PARTS, MAX_STAGES, Stage};
 use sl_lex::{Keyword, Kind, Mark};
-use sl_stages::{Book, LastClause, MAX_DEPTH, MAX_PARTS, MAX_STAGES, Stage};
 
 impl<'a> Parser<'a> {
     #[tactic(auto, unfolding(crate::specs::inner::Reading::read_stage))]

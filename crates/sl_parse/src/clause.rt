@@ -5,8 +5,8 @@ ghost use Rattle.sl_parse.specs.inner.Reading.{Gives, is_clause, read_majority, 
 
 use crate::fault::Stop;
 use crate::token::Parser;
+use sl_law_meaning::Majority;
 use sl_lex::{Keyword, Kind, Mark};
-use sl_stages::Majority;
 
 // The word that leaves seats empty which a list can't fill.
 const VACATE: &[u8] = b"vacate";

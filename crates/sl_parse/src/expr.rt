@@ -2,15 +2,15 @@
 //! what is left of the parts is handed back.
 
 ghost use Rattle.std.specs.Prelude.{drop};
-ghost use Rattle.sl_stages.specs.book.Trees.{tree_of, minima_tree};
+ghost use Rattle.sl_law_meaning.specs.book.Trees.{tree_of, minima_tree};
 ghost use Rattle.sl_parse.specs.inner.Reading.{Gives, read_sum, read_two, read_pair, read_division, read_minima, read_split, read_grow, read_node, read_expr};
 
 use crate::fault::{Cause, Stop};
 use crate::form::Form;
 use crate::token::Parser;
+use sl_base_quotients::Method;
+use sl_law_meaning::{Expr, Pairing};
 use sl_lex::{Keyword, Mark};
-use sl_ratio::Method;
-use sl_stages::{Expr, Pairing};
 
 /// What was read, the parts that are left, and the token after it.
 type Read<T> = Result<(T, u32, usize), Stop>;

@@ -3,7 +3,7 @@
 ghost use Rattle.std.specs.Prelude.{◌≡◌};
 ghost use Rattle.sl_parse.specs.declared.fault.Stop.TheVariants.{NoMemory as OutOfMemory};
 
-use sl_ratio::NoMemory;
+use sl_base_quotients::NoMemory;
 use std::alloc::{AllocError, AllocFailed};
 use std::error::Error;
 use std::fmt;

@@ -3,8 +3,8 @@
 ghost use Rattle.std.specs.Prelude.{◌≡◌};
 ghost use Rattle.sl_parse.specs.Words.{form_of};
 
+use sl_law_meaning::{Fact, Pairing};
 use sl_lex::{Keyword, Kind};
-use sl_stages::{Fact, Pairing};
 
 /// The form of an expression.
 #[derive(Clone, Copy)]

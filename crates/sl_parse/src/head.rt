@@ -5,8 +5,8 @@ ghost use Rattle.sl_parse.specs.inner.Reading.{Gives, read_valid, read_winners, 
 
 use crate::fault::{Cause, Stop};
 use crate::token::Parser;
+use sl_law_meaning::{Cond, Number};
 use sl_lex::{Keyword, Kind, Mark};
-use sl_stages::{Cond, Number};
 
 /// What stands before the stages.
 #[derive(Drop)]

@@ -2,8 +2,8 @@
 
 ghost use Rattle.std.specs.Prelude.{◌≡◌, List, ℕ, [], IsTrue, ◌⊎◌};
 ghost use Rattle.sl_lex.specs.declared.token.Token.{Token};
-ghost use Rattle.sl_stages.specs.book.Trees.{BookTree};
-ghost use Rattle.sl_stages.specs.book.Limits.{is_within_limits};
+ghost use Rattle.sl_law_meaning.specs.book.Trees.{BookTree};
+ghost use Rattle.sl_law_meaning.specs.book.Limits.{is_within_limits};
 ghost use Rattle.sl_parse.specs.declared.fault.Cause.{Cause};
 ghost use Rattle.sl_parse.specs.Grammar.{IsBook};
 ghost use Rattle.sl_parse.specs.Faults.{IsFault};

@@ -1,7 +1,7 @@
 //! The parser: from the tokens of a text to its rulebook.
 //!
-//! Stands on `sl_lex` and `sl_stages`; used by the rooms count and explain. Proved: the tree is the one that the grammar gives, or the fault is the
-//! only one.
+//! Stands on `sl_lex` and `sl_law_meaning`; used by the rooms count and explain. Proved: the tree is the one that the grammar gives, or the fault is
+//! the only one.
 //!
 //! Where an error is `NoMemory` alone, memory ran out, and nothing else is wrong.
 #![tactic(auto)]

@@ -3,16 +3,16 @@
 ghost use Rattle.std.specs.Prelude.{◌≡◌, IsTrue, IfOk, IfErr, []};
 ghost use Rattle.sl_lex.specs.Tokens.{AreTokens};
 ghost use Rattle.sl_parse.specs.Spans.{AreSpans};
-ghost use Rattle.sl_stages.specs.book.Trees.{BookTree};
-ghost use Rattle.sl_stages.specs.book.Limits.{is_within_limits};
+ghost use Rattle.sl_law_meaning.specs.book.Trees.{BookTree};
+ghost use Rattle.sl_law_meaning.specs.book.Limits.{is_within_limits};
 ghost use Rattle.sl_parse.specs.Grammar.{IsBook};
-ghost use Rattle.sl_stages.specs.book.Books.{book_of};
+ghost use Rattle.sl_law_meaning.specs.book.Books.{book_of};
 ghost use Rattle.sl_parse.specs.Parsing.{fault_at, IsFaultOf, Answers};
 
 use crate::fault::{Cause, ParseFault, Stop};
 use crate::token::Parser;
+use sl_law_meaning::Book;
 use sl_lex::{Token, laws};
-use sl_stages::Book;
 use std::alloc::Global;
 
 fn fault_at(cause: Cause, at: usize) -> ParseFault

@@ -10,9 +10,9 @@ ghost use Rattle.sl_parse.specs.inner.Reading.{Gives, one, taken, number_in, nam
 
 use crate::fault::{Cause, Stop};
 use crate::words::keyword_method;
+use sl_base_quotients::Method;
+use sl_law_meaning::{Axis, Base, Majority, Number, Seating, Word};
 use sl_lex::{Keyword, Kind, Mark, Token};
-use sl_ratio::Method;
-use sl_stages::{Axis, Base, Majority, Number, Seating, Word};
 use std::alloc::Global;
 
 /// A text and its tokens.

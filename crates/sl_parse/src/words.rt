@@ -4,8 +4,8 @@ ghost use Rattle.std.specs.Prelude.{◌≡◌};
 ghost use Rattle.sl_lex.specs.declared.token.Kind.TheVariants as kinds;
 ghost use Rattle.sl_parse.specs.Words.{method_of, method_word};
 
+use sl_base_quotients::{Divisor, Method};
 use sl_lex::Keyword;
-use sl_ratio::{Divisor, Method};
 
 /// The keyword of a method.
 pub fn method_keyword(method: Method) -> Keyword

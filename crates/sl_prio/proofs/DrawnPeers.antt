@@ -7,21 +7,21 @@ use Rattle.std.specs.Ordering.{nat_cmp, is_le, ordering_reverse, ordering_then}
 use Rattle.std.proofs.lemmas.Bool.{cases_eq, eq-eqb}
 use Rattle.std.proofs.lemmas.List.Elements.{All-cons, Contains-get_or}
 use Rattle.std.proofs.lemmas.Option.{get_or_from_slice_get, slice_get_within}
-use Rattle.sl_ratio.specs.declared.entry.Entry.{Entry}
-use Rattle.sl_ratio.specs.Entry.{entry_cmp, quotient_cmp}
-use Rattle.sl_ratio.specs.inner.EntryLaws.{quotient_total}
-use Rattle.sl_prio.specs.Prio.{has_quotient_of, top}
-use Rattle.sl_prio.specs.Lot.{lot_cmp}
+use Rattle.sl_base_quotients.specs.declared.entry.Entry.{Entry}
+use Rattle.sl_base_quotients.specs.Entry.{entry_cmp, quotient_cmp}
+use Rattle.sl_base_quotients.specs.inner.EntryLaws.{quotient_total}
+use Rattle.sl_base_rankings.specs.Peers.{has_quotient_of, top}
+use Rattle.sl_base_rankings.specs.Lot.{lot_cmp}
 use Rattle.sl_prio.specs.inner.Heap.{IsDrawnFrom, IsDrawnOf, IsFirstNamed, IsHeap, peers_under}
 use Rattle.sl_prio.specs.inner.Marks.{AreApart, first_named, have_index}
-use Rattle.sl_prio.proofs.Finding.{All-at, Contains-tail, any-at}
+use Rattle.sl_base_rankings.proofs.Finding.{All-at, Contains-tail, any-at}
 use Rattle.sl_prio.proofs.FirstNamed.{at_one_place, before_later, by_no_name, drawn_by_first}
-use Rattle.sl_prio.proofs.Fronts.{HasRatio, le_first}
-use Rattle.sl_prio.proofs.Greatest.{AtMost, AtMost-self, greatest-Some}
+use Rattle.sl_base_rankings.proofs.Fronts.{HasRatio, le_first}
+use Rattle.sl_base_rankings.proofs.Greatest.{AtMost, AtMost-self, greatest-Some}
 use Rattle.sl_prio.proofs.Heaps.{top_at_first}
-use Rattle.sl_prio.proofs.LotPlaces.{found_first}
-use Rattle.sl_prio.proofs.Orders.{entry_order, lot_order}
-use Rattle.sl_prio.proofs.PeerLaws.{fits_first, tied}
+use Rattle.sl_base_rankings.proofs.LotPlaces.{found_first}
+use Rattle.sl_base_rankings.proofs.Orders.{entry_order, lot_order}
+use Rattle.sl_base_rankings.proofs.PeerLaws.{fits_first, tied}
 use Rattle.sl_prio.proofs.PeerMarks.{is_under, only_one, under_has}
 use Rattle.sl_prio.proofs.Seen.{seen_first}
 

@@ -4,12 +4,12 @@ use Rattle.std.proofs.lemmas.List.{get_or_default}
 use Rattle.std.proofs.lemmas.Option.{slice_get_within, get_or_from_slice_get}
 use Rattle.std.specs.Ordering.{is_gt}
 use Rattle.std.proofs.lemmas.List.Elements.{All-append, All-cons, All-head, All-nil, All-tail, All-weaker}
-use Rattle.sl_ratio.specs.declared.entry.Entry.{Entry}
-use Rattle.sl_prio.specs.Lot.{lot_cmp}
+use Rattle.sl_base_quotients.specs.declared.entry.Entry.{Entry}
+use Rattle.sl_base_rankings.specs.Lot.{lot_cmp}
 use Rattle.sl_prio.specs.inner.Heap.{IsDrawnOf, IsDrawnFrom}
-use Rattle.sl_prio.proofs.Finding.{Contains-head, Contains-tail, Contains-cases, Contains-append_left, Contains-append_right}
-use Rattle.sl_prio.proofs.Greatest.{AtMost, AtMost-self, AtMost-trans, AtMost-other, le_not_gt}
-use Rattle.sl_prio.proofs.Orders.{lot_order}
+use Rattle.sl_base_rankings.proofs.Finding.{Contains-head, Contains-tail, Contains-cases, Contains-append_left, Contains-append_right}
+use Rattle.sl_base_rankings.proofs.Greatest.{AtMost, AtMost-self, AtMost-trans, AtMost-other, le_not_gt}
+use Rattle.sl_base_rankings.proofs.Orders.{lot_order}
 
 module _ (lot : List ℕ) where
   abbrev Before : Entry → Entry → Type 0

@@ -7,14 +7,14 @@ use Rattle.std.specs.declared.cmp.Ordering.TheVariants.{Less, Equal}
 use Rattle.std.specs.Ordering.{nat_cmp, is_le, ordering_then}
 use Rattle.std.proofs.lemmas.Bool.{cases_eq, eq-eqb, eqb-true, lt-ltb}
 use Rattle.std.proofs.lemmas.List.Elements.{All-cons, Contains-get_or}
-use Rattle.sl_ratio.specs.declared.entry.Entry.{Entry}
-use Rattle.sl_ratio.specs.Entry.{entry_cmp}
-use Rattle.sl_prio.specs.Lot.{place_in_lot, lot_cmp}
+use Rattle.sl_base_quotients.specs.declared.entry.Entry.{Entry}
+use Rattle.sl_base_quotients.specs.Entry.{entry_cmp}
+use Rattle.sl_base_rankings.specs.Lot.{place_in_lot, lot_cmp}
 use Rattle.sl_prio.specs.inner.Heap.{IsDrawnOf}
 use Rattle.sl_prio.specs.inner.Marks.{first_named, have_index}
-use Rattle.sl_prio.proofs.Finding.{All-at, any-at, any-Contains, find-Some, Contains-cases, Contains-tail}
-use Rattle.sl_prio.proofs.Greatest.{AtMost}
-use Rattle.sl_prio.proofs.LotPlaces.{found_first, found_none, not_later, place_here, place_later}
+use Rattle.sl_base_rankings.proofs.Finding.{All-at, any-at, any-Contains, find-Some, Contains-cases, Contains-tail}
+use Rattle.sl_base_rankings.proofs.Greatest.{AtMost}
+use Rattle.sl_base_rankings.proofs.LotPlaces.{found_first, found_none, not_later, place_here, place_later}
 
 module _ (lot : List ℕ) (y z : Entry) where
   -- how a lot draws of two entries that stand at one place in it

@@ -8,12 +8,12 @@ use Rattle.std.proofs.lemmas.List.Edits.{swap_is}
 use Rattle.std.proofs.lemmas.List.Sorted.{IsPermutation-cons, IsPermutation-swap, IsPermutation-swap_remove, IsPermutation-trans}
 use Rattle.std.proofs.Math.Seq.{set-append_seam, take-set-lt}
 use Rattle.std.specs.Ordering.{is_gt}
-use Rattle.sl_ratio.specs.declared.entry.Entry.{Entry}
-use Rattle.sl_ratio.specs.Entry.{entry_cmp}
+use Rattle.sl_base_quotients.specs.declared.entry.Entry.{Entry}
+use Rattle.sl_base_quotients.specs.Entry.{entry_cmp}
 use Rattle.sl_prio.specs.inner.Heap.{IsGreatestChild, IsHeap, IsHeapBut, IsUnder, MayRise}
 use Rattle.sl_prio.proofs.Heaps.{front_heap, front_rises, given_back, moved, sunk, under_not_greater, under_read}
-use Rattle.sl_prio.proofs.Greatest.{AtMost-other}
-use Rattle.sl_prio.proofs.Orders.{entry_order}
+use Rattle.sl_base_rankings.proofs.Greatest.{AtMost-other}
+use Rattle.sl_base_rankings.proofs.Orders.{entry_order}
 
 -- x is carried, and y moves from place c into the gap at j
 module _ (xs : List Entry) (j c : ℕ) (x y : Entry) (gap : j < length xs) (within : c < length xs) (other : c ≢ j) (read : y ≡ get_or xs c y) where

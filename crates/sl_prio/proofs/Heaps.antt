@@ -4,16 +4,16 @@ use Rattle.std.specs.List.{SwappedAt}
 use Rattle.std.specs.Ordering.{is_le, is_gt}
 use Rattle.std.proofs.lemmas.Bool.{cases_eq}
 use Rattle.std.proofs.lemmas.List.{get_or-take, get_or_default, length-take-le}
-use Rattle.sl_ratio.specs.declared.entry.Entry.{Entry}
-use Rattle.sl_ratio.specs.Entry.{entry_cmp}
+use Rattle.sl_base_quotients.specs.declared.entry.Entry.{Entry}
+use Rattle.sl_base_quotients.specs.Entry.{entry_cmp}
 use Rattle.std.proofs.Math.Seq.{take-append_seam}
 use Rattle.std.proofs.lemmas.List.Elements.{All-tail}
 use Rattle.std.proofs.lemmas.List.Sorted.{All-permutation}
-use Rattle.sl_ratio.specs.Quotient.{FitsRatio}
+use Rattle.sl_base_quotients.specs.Quotient.{FitsRatio}
 use Rattle.sl_prio.specs.inner.Heap.{IsKept, IsUnder, IsHeap, IsHeapBut, MayRise, IsGreatestChild}
-use Rattle.sl_prio.specs.Prio.{top}
-use Rattle.sl_prio.proofs.Greatest.{greatest-is, AtMost-self, AtMost-trans, le_not_gt}
-use Rattle.sl_prio.proofs.Orders.{entry_order}
+use Rattle.sl_base_rankings.specs.Peers.{top}
+use Rattle.sl_base_rankings.proofs.Greatest.{greatest-is, AtMost-self, AtMost-trans, le_not_gt}
+use Rattle.sl_base_rankings.proofs.Orders.{entry_order}
 
 -- ---- one entry no greater than another
 

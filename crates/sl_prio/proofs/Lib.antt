@@ -1,15 +1,5 @@
-pub mod Finding
-pub mod Greatest
-pub mod Rankings
-pub mod Orders
-pub mod Tables
 pub mod Draws
-pub mod LotPlaces
 pub mod FirstNamed
-pub mod LawProofs
-pub mod Fronts
-pub mod RankedEntries
-pub mod PeerLaws
 pub mod Heaps
 pub mod Gaps
 pub mod Marks

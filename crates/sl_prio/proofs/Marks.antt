@@ -4,9 +4,9 @@ use Rattle.std.proofs.lemmas.Bool.{eqb-true, false_from_ne_true, true≢false}
 use Rattle.std.proofs.lemmas.List.Folds.{list_any_more, list_any-append}
 use Rattle.std.proofs.lemmas.List.Sums.{sum_by-append}
 use Rattle.std.proofs.lemmas.Option.{get_or_from_slice_get, slice_get_within}
-use Rattle.sl_ratio.specs.declared.entry.Entry.{Entry}
+use Rattle.sl_base_quotients.specs.declared.entry.Entry.{Entry}
 use Rattle.sl_prio.specs.inner.Marks.{AreApartFrom, AreMarks, names, have_index}
-use Rattle.sl_prio.proofs.Finding.{any-at, count_by-cons, count_by-none}
+use Rattle.sl_base_rankings.proofs.Finding.{any-at, count_by-cons, count_by-none}
 
 or_assoc : (a b c : Bool) → ((a || b) || c) ≡ (a || (b || c))
 or_assoc true b c = refl

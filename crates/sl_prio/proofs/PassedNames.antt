@@ -2,11 +2,11 @@
 use Rattle.std.proofs.Common.{◌≡◌, ℕ, zero, suc, ◌+◌, ◌<◌, ◌≤◌, true, false, List, [], ◌∷◌, length, get_or, nat_eq, Option, Some, None, refl, sym, ap, subst, ◌∙◌, inl, inr, arith}
 use Rattle.std.proofs.lemmas.Bool.{cases_eq, cases_lt, eq-eqb, eqb-true, true≢false}
 use Rattle.std.proofs.lemmas.List.Elements.{Contains-get_or}
-use Rattle.sl_ratio.specs.declared.entry.Entry.{Entry}
-use Rattle.sl_prio.specs.Lot.{place_in_lot}
+use Rattle.sl_base_quotients.specs.declared.entry.Entry.{Entry}
+use Rattle.sl_base_rankings.specs.Lot.{place_in_lot}
 use Rattle.sl_prio.specs.inner.Marks.{IsPassed, first_named, have_index}
-use Rattle.sl_prio.proofs.Finding.{All-at, any-at, any-Contains, find-Some}
-use Rattle.sl_prio.proofs.LotPlaces.{found_first, found_none, place_here, place_later}
+use Rattle.sl_base_rankings.proofs.Finding.{All-at, any-at, any-Contains, find-Some}
+use Rattle.sl_base_rankings.proofs.LotPlaces.{found_first, found_none, place_here, place_later}
 use Rattle.sl_prio.proofs.PeerMarks.{has_own}
 
 -- a lot names an index first no later than where it names it

@@ -10,25 +10,25 @@ use Rattle.std.proofs.lemmas.Cmp.{upto}
 use Rattle.std.proofs.lemmas.List.Elements.{All-cons, All-tail, Contains-get_or}
 use Rattle.std.proofs.lemmas.List.Sorted.{All-permutation, Contains-permutation, IsPermutation-sym}
 use Rattle.std.proofs.lemmas.List.Sums.{count_by-le-length, length-filter}
-use Rattle.sl_ratio.specs.declared.entry.Entry.{Entry}
-use Rattle.sl_ratio.specs.Quotient.{compare}
-use Rattle.sl_ratio.specs.Entry.{entry_cmp, quotient_cmp}
-use Rattle.sl_ratio.specs.inner.EntryLaws.{quotient_total, quotient_cmp-positive}
-use Rattle.sl_prio.specs.Prio.{top, peers, has_quotient_of}
-use Rattle.sl_prio.specs.Ranking.{ranked}
+use Rattle.sl_base_quotients.specs.declared.entry.Entry.{Entry}
+use Rattle.sl_base_quotients.specs.Quotient.{compare}
+use Rattle.sl_base_quotients.specs.Entry.{entry_cmp, quotient_cmp}
+use Rattle.sl_base_quotients.specs.inner.EntryLaws.{quotient_total, quotient_cmp-positive}
+use Rattle.sl_base_rankings.specs.Peers.{top, peers, has_quotient_of}
+use Rattle.sl_base_rankings.specs.Ranking.{ranked}
 use Rattle.sl_prio.specs.inner.Heap.{AreCounted, IsHeap, IsNewPeer}
 use Rattle.sl_prio.specs.inner.Marks.{AreApart, HaveMarks, have_index}
-use Rattle.sl_prio.proofs.Finding.{All-at, Contains-cases, Contains-filter, Contains-head, Contains-none, Contains-tail, count_by-cons, count_by-filter, count_by-no, count_by-none, count_by-yes, counted, slice_get-Contains}
+use Rattle.sl_base_rankings.proofs.Finding.{All-at, Contains-cases, Contains-filter, Contains-head, Contains-none, Contains-tail, count_by-cons, count_by-filter, count_by-no, count_by-none, count_by-yes, counted, slice_get-Contains}
 use Rattle.sl_prio.proofs.Heaps.{top_first}
-use Rattle.sl_prio.proofs.LawProofs.{first_peers}
-use Rattle.sl_prio.proofs.Fronts.{HasRatio}
-use Rattle.sl_prio.proofs.Greatest.{AtMost, both_le, greatest-is, greatest-None, greatest-Some, le_not_gt, not_gt}
-use Rattle.sl_prio.proofs.Orders.{entry_order}
-use Rattle.sl_prio.proofs.PeerLaws.{fits_first, has_top_quotient, peers_are_greatest, tied, up_to_top}
+use Rattle.sl_base_rankings.proofs.LawProofs.{first_peers}
+use Rattle.sl_base_rankings.proofs.Fronts.{HasRatio}
+use Rattle.sl_base_rankings.proofs.Greatest.{AtMost, both_le, greatest-is, greatest-None, greatest-Some, le_not_gt, not_gt}
+use Rattle.sl_base_rankings.proofs.Orders.{entry_order}
+use Rattle.sl_base_rankings.proofs.PeerLaws.{fits_first, has_top_quotient, peers_are_greatest, tied, up_to_top}
 use Rattle.sl_prio.proofs.Marks.{none_has}
 use Rattle.sl_prio.proofs.PeerMarks.{fresh_index}
-use Rattle.sl_prio.proofs.Rankings.{counts_alike, ranked-permutation}
-use Rattle.sl_prio.proofs.Tables.{has_own_quotient, peers-at_top, peers-length, top-Contains}
+use Rattle.sl_base_rankings.proofs.Rankings.{counts_alike, ranked-permutation}
+use Rattle.sl_base_rankings.proofs.Tables.{has_own_quotient, peers-at_top, peers-length, top-Contains}
 
 -- ---- counts by a test, and quotients
 

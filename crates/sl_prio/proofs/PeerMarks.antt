@@ -6,11 +6,11 @@ use Rattle.std.proofs.lemmas.Bool.{and_from, and_parts, cases_Bool, eq-eqb, eqb-
 use Rattle.std.proofs.lemmas.List.{get_or_default}
 use Rattle.std.proofs.lemmas.List.Sorted.{Contains-permutation, IsPermutation-sym}
 use Rattle.std.proofs.lemmas.Option.{get_or_from_slice_get, same_Some, slice_get_within}
-use Rattle.sl_ratio.specs.declared.entry.Entry.{Entry}
-use Rattle.sl_prio.specs.Prio.{peers, has_quotient_of}
+use Rattle.sl_base_quotients.specs.declared.entry.Entry.{Entry}
+use Rattle.sl_base_rankings.specs.Peers.{peers, has_quotient_of}
 use Rattle.sl_prio.specs.inner.Heap.{AreCounted, IsAt, IsHeap, is_peer_with, peers_under, subtree}
 use Rattle.sl_prio.specs.inner.Marks.{AreMarks, HaveMarks, have_index}
-use Rattle.sl_prio.proofs.Finding.{any-at, any-Contains, count_by-no, count_by-yes, filter-Contains, Contains-cases, Contains-filter, Contains-none, Contains-tail, count_by-cons, some_counted}
+use Rattle.sl_base_rankings.proofs.Finding.{any-at, any-Contains, count_by-no, count_by-yes, filter-Contains, Contains-cases, Contains-filter, Contains-none, Contains-tail, count_by-cons, some_counted}
 use Rattle.sl_prio.proofs.Seen.{seen_under}
 use Rattle.sl_prio.proofs.Subtrees.{subtree_permutation}
 

@@ -5,19 +5,19 @@ use Rattle.std.specs.Prelude.{nat_eq}
 use Rattle.std.proofs.lemmas.Bool.{true≢false}
 use Rattle.std.proofs.lemmas.List.Elements.{All-tail}
 use Rattle.std.proofs.lemmas.List.Sorted.{Contains-permutation, IsPermutation-sym}
-use Rattle.sl_ratio.specs.declared.entry.Entry.{Entry}
-use Rattle.sl_prio.specs.Ranking.{ranked}
-use Rattle.sl_prio.specs.Prio.{top, peers, is_covered}
-use Rattle.sl_prio.specs.Lot.{drawn, lot_cmp}
-use Rattle.sl_prio.specs.Laws.{AnswersAlike}
+use Rattle.sl_base_quotients.specs.declared.entry.Entry.{Entry}
+use Rattle.sl_base_rankings.specs.Ranking.{ranked}
+use Rattle.sl_base_rankings.specs.Peers.{top, peers, is_covered}
+use Rattle.sl_base_rankings.specs.Lot.{drawn, lot_cmp}
+use Rattle.sl_base_rankings.specs.Laws.{AnswersAlike}
 use Rattle.sl_prio.specs.inner.Heap.{IsHeap, IsKept, IsPeerAt, IsDrawnOf, are_named, peers_under, subtree}
-use Rattle.sl_prio.proofs.Finding.{Contains-cases}
-use Rattle.sl_prio.proofs.Greatest.{AtMost}
+use Rattle.sl_base_rankings.proofs.Finding.{Contains-cases}
+use Rattle.sl_base_rankings.proofs.Greatest.{AtMost}
 use Rattle.sl_prio.proofs.Heaps.{top_at_first}
-use Rattle.sl_prio.proofs.LawProofs.{order_is_free}
-use Rattle.sl_prio.proofs.Rankings.{counts_alike, ranked-permutation}
+use Rattle.sl_base_rankings.proofs.LawProofs.{order_is_free}
+use Rattle.sl_base_rankings.proofs.Rankings.{counts_alike, ranked-permutation}
 use Rattle.sl_prio.proofs.Subtrees.{subtree_permutation, peers_at}
-use Rattle.sl_prio.proofs.Tables.{has_own_quotient, peers-at_top, peers-length, peers-list_all, top-peer, drawn-is}
+use Rattle.sl_base_rankings.proofs.Tables.{has_own_quotient, peers-at_top, peers-length, peers-list_all, top-peer, drawn-is}
 
 unless_some : (P : Type 0) (Q : Entry → Type 0) (o : Option Entry) → MatchOption o P Q → is_some o ≡ false → P
 unless_some P Q None h none = h

@@ -6,16 +6,16 @@ use Rattle.std.proofs.lemmas.Bool.{cases_lt}
 use Rattle.std.proofs.lemmas.List.Elements.{All-append, All-cons, All-nil, All-weaker, filter-append}
 use Rattle.std.proofs.lemmas.List.Sums.{sum_by-append, length-filter, count_by-le-length}
 use Rattle.std.proofs.lemmas.Option.{slice_get_within, slice_get-get_or, get_or_from_slice_get}
-use Rattle.sl_ratio.specs.declared.entry.Entry.{Entry}
-use Rattle.sl_ratio.specs.Entry.{entry_cmp}
-use Rattle.sl_prio.specs.Prio.{has_quotient_of}
+use Rattle.sl_base_quotients.specs.declared.entry.Entry.{Entry}
+use Rattle.sl_base_quotients.specs.Entry.{entry_cmp}
+use Rattle.sl_base_rankings.specs.Peers.{has_quotient_of}
 use Rattle.sl_prio.specs.inner.Heap.{IsHeap, IsKept, IsPeerAt, levels, peers_under, subtree}
-use Rattle.sl_prio.proofs.Finding.{count_by-cons, All-at, slice_get-Contains}
-use Rattle.sl_prio.proofs.Fronts.{HasRatio, none_behind}
-use Rattle.sl_prio.proofs.Greatest.{AtMost, AtMost-self, AtMost-trans}
+use Rattle.sl_base_rankings.proofs.Finding.{count_by-cons, All-at, slice_get-Contains}
+use Rattle.sl_base_rankings.proofs.Fronts.{HasRatio, none_behind}
+use Rattle.sl_base_rankings.proofs.Greatest.{AtMost, AtMost-self, AtMost-trans}
 use Rattle.sl_prio.proofs.Heaps.{under_top}
-use Rattle.sl_prio.proofs.LawProofs.{same_entries}
-use Rattle.sl_prio.proofs.Orders.{entry_order}
+use Rattle.sl_base_rankings.proofs.LawProofs.{same_entries}
+use Rattle.sl_base_rankings.proofs.Orders.{entry_order}
 
 -- ---- levels past the last entry
 

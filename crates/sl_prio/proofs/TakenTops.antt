@@ -4,20 +4,20 @@ use Rattle.std.specs.Option.{option_map_or}
 use Rattle.std.proofs.lemmas.Bool.{cases_Bool, true≢false}
 use Rattle.std.proofs.lemmas.List.Elements.{All-cons, All-tail}
 use Rattle.std.proofs.lemmas.List.Sorted.{IsPermutation-cons, IsPermutation-middle, IsPermutation-refl, IsPermutation-sym, IsPermutation-trans}
-use Rattle.sl_ratio.specs.declared.entry.Entry.{Entry}
-use Rattle.sl_ratio.specs.Entry.{entry_cmp}
-use Rattle.sl_ratio.specs.Quotient.{FitsRatio}
-use Rattle.sl_prio.specs.Prio.{top, peers}
-use Rattle.sl_prio.specs.Ranking.{same_entry, without}
+use Rattle.sl_base_quotients.specs.declared.entry.Entry.{Entry}
+use Rattle.sl_base_quotients.specs.Entry.{entry_cmp}
+use Rattle.sl_base_quotients.specs.Quotient.{FitsRatio}
+use Rattle.sl_base_rankings.specs.Peers.{top, peers}
+use Rattle.sl_base_rankings.specs.Ranking.{same_entry, without}
 use Rattle.sl_prio.specs.inner.Heap.{AreCounted, IsHeap, IsKept}
 use Rattle.sl_prio.specs.inner.Taken.{without_top}
-use Rattle.sl_prio.proofs.Finding.{Contains-cases, Contains-none}
-use Rattle.sl_prio.proofs.Greatest.{greatest-None}
+use Rattle.sl_base_rankings.proofs.Finding.{Contains-cases, Contains-none}
+use Rattle.sl_base_rankings.proofs.Greatest.{greatest-None}
 use Rattle.sl_prio.proofs.Heaps.{kept_by, top_first}
-use Rattle.sl_prio.proofs.LawProofs.{left_alike}
-use Rattle.sl_prio.proofs.Orders.{entry_order, same_entry-is}
-use Rattle.sl_prio.proofs.RankedEntries.{same_itself}
-use Rattle.sl_prio.proofs.Tables.{top-Contains}
+use Rattle.sl_base_rankings.proofs.LawProofs.{left_alike}
+use Rattle.sl_base_rankings.proofs.Orders.{entry_order, same_entry-is}
+use Rattle.sl_base_rankings.proofs.RankedEntries.{same_itself}
+use Rattle.sl_base_rankings.proofs.Tables.{top-Contains}
 
 -- two entries in front, the other one first
 flipped : (x y : Entry) (xs : List Entry) → IsPermutation (y ∷ x ∷ xs) (x ∷ y ∷ xs)

@@ -1,5 +1,1 @@
-pub mod Ranking
-pub mod Prio
-pub mod Lot
-pub mod Laws
 pub mod inner

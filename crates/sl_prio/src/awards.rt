@@ -1,13 +1,13 @@
 //! Tables from which seats are awarded: the entry that gets a seat is taken, and mostly comes back with its next quotient.
 
 ghost use Rattle.std.specs.Prelude.{◌≡◌, ◌∷◌, [], length, IfSome, IfNone, OnOk, OnErr, IsPermutation, option_map};
-ghost use Rattle.sl_prio.specs.Prio.{top, peers, is_covered};
-ghost use Rattle.sl_prio.specs.Lot.{drawn};
+ghost use Rattle.sl_base_rankings.specs.Peers.{top, peers, is_covered};
+ghost use Rattle.sl_base_rankings.specs.Lot.{drawn};
 ghost use Rattle.sl_prio.specs.inner.Taken.{held_in};
 ghost use Rattle.sl_prio.specs.inner.Marks.{IsPassed};
 
 use crate::prio::{Drawn, Prio};
-use sl_ratio::{Entry, NoMemory};
+use sl_base_quotients::{Entry, NoMemory};
 use std::alloc::Global;
 use std::marker::Model;
 
@@ -21,8 +21,8 @@ pub struct AwardTable {
 
 impl Model for AwardTable {
     ghost use Rattle.std.specs.Prelude.{◌≡◌, List, IsTrue, length};
-    ghost use Rattle.sl_ratio.specs.declared.entry.Entry.{Entry};
-    ghost use Rattle.sl_prio.specs.Prio.{peers};
+    ghost use Rattle.sl_base_quotients.specs.declared.entry.Entry.{Entry};
+    ghost use Rattle.sl_base_rankings.specs.Peers.{peers};
     ghost use Rattle.sl_prio.specs.inner.Taken.{held_in};
 
     ghost Value = { List Entry };

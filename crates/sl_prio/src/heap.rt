@@ -3,12 +3,12 @@
 
 ghost use Rattle.std.specs.Prelude.{◌≡◌, ◌+◌, ◌*◌, ◌<◌, ◌≤◌, ◌∷◌, length, slice_index_or, slice_set, IsPermutation, MatchOption};
 ghost use Rattle.std.specs.Ordering.{is_gt};
-ghost use Rattle.sl_ratio.specs.declared.entry.Entry.{Entry};
-ghost use Rattle.sl_ratio.specs.Entry.{entry_cmp};
+ghost use Rattle.sl_base_quotients.specs.declared.entry.Entry.{Entry};
+ghost use Rattle.sl_base_quotients.specs.Entry.{entry_cmp};
 ghost use Rattle.sl_prio.specs.inner.Heap.{IsHeap, IsHeapBut, MayRise, IsGreatestChild, HasNoSmallerParent, IsSmallerParent};
 
 use crate::places::note;
-use sl_ratio::{Entry, Ratio};
+use sl_base_quotients::{Entry, Ratio};
 
 // The numerator of a quotient times the denominator of another, which has at most 64 bits.
 pub(crate) fn across(ratio: &Ratio, other: &Ratio) -> u128

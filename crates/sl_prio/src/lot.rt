@@ -1,11 +1,11 @@
 //! The order in which a lot draws entries of equal quotients, and marks of indexes.
 
 ghost use Rattle.std.specs.Prelude.{◌≡◌, ◌||◌, ◌∷◌, ℕ, Bool, IsTrue, List, Some, false, nat_eq, slice_get};
-ghost use Rattle.sl_ratio.specs.declared.entry.Entry.{Entry};
-ghost use Rattle.sl_prio.specs.Lot.{place_in_lot, lot_cmp};
+ghost use Rattle.sl_base_quotients.specs.declared.entry.Entry.{Entry};
+ghost use Rattle.sl_base_rankings.specs.Lot.{place_in_lot, lot_cmp};
 ghost use Rattle.sl_prio.specs.inner.Marks.{AreMarks, HaveMarks, have_index, names};
 
-use sl_ratio::{Entry, MAX_LANDS, MAX_PARTIES};
+use sl_base_quotients::{Entry, MAX_LANDS, MAX_PARTIES};
 use std::cmp::Ordering;
 
 // How many indexes can have a mark: those of the lists of the greatest election.

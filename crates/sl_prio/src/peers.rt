@@ -2,15 +2,15 @@
 //! and so a place is visited only where its parent's quotient is the top's.
 
 ghost use Rattle.std.specs.Prelude.{◌≡◌, ◌<◌, ◌||◌, ◌∷◌, ℕ, Bool, List, [], MatchOption, IfSome, IsTrue, None, Some, false, length, slice_get};
-ghost use Rattle.sl_ratio.specs.declared.entry.Entry.{Entry};
-ghost use Rattle.sl_prio.specs.Prio.{has_quotient_of, peers};
+ghost use Rattle.sl_base_quotients.specs.declared.entry.Entry.{Entry};
+ghost use Rattle.sl_base_rankings.specs.Peers.{has_quotient_of, peers};
 ghost use Rattle.sl_prio.specs.inner.Heap.{AreCounted, IsKept, IsPeerAt, IsAt, IsFirstNamed, IsDrawnFrom, are_named, is_peer_with, peers_under};
 ghost use Rattle.sl_prio.specs.inner.Marks.{AreApart, AreApartFrom, AreMarks, HaveMarks, IsPassed, names, have_index, first_named};
 
 use crate::heap::across;
 use crate::lot::{is_named, lot_cmp, mark, unmark};
 use crate::places::note;
-use sl_ratio::Entry;
+use sl_base_quotients::Entry;
 
 // Whether an entry has the quotient of the top.
 pub(crate) fn is_peer(top: &Entry, entry: &Entry) -> bool

@@ -4,18 +4,18 @@ ghost use Rattle.std.specs.Prelude.{◌≡◌, ◌<◌, ◌&&◌, ◌↔◌, IsT
 ghost use Rattle.sl_prio.specs.inner.Heap.{IsNewPeer};
 ghost use Rattle.std.specs.List.{count_by, filter};
 ghost use Rattle.std.specs.Ordering.{is_gt, is_ge};
-ghost use Rattle.sl_ratio.specs.Quotient.{FitsRatio};
-ghost use Rattle.sl_ratio.specs.Entry.{entry_cmp};
-ghost use Rattle.sl_prio.specs.Ranking.{ranked};
-ghost use Rattle.sl_prio.specs.Prio.{has_quotient_of, top, peers, is_covered};
-ghost use Rattle.sl_prio.specs.Lot.{drawn};
+ghost use Rattle.sl_base_quotients.specs.Quotient.{FitsRatio};
+ghost use Rattle.sl_base_quotients.specs.Entry.{entry_cmp};
+ghost use Rattle.sl_base_rankings.specs.Ranking.{ranked};
+ghost use Rattle.sl_base_rankings.specs.Peers.{has_quotient_of, top, peers, is_covered};
+ghost use Rattle.sl_base_rankings.specs.Lot.{drawn};
 ghost use Rattle.sl_prio.specs.inner.Marks.{IsPassed};
 
 use crate::heap::{across, raise, replace_first, take_out};
 use crate::lot::{LEAST_MARKS, MARKS, marks};
 use crate::peers::{Counted, are_named, drawn_at, is_peer, marked_again, peers_left};
 use crate::places::note;
-use sl_ratio::{Entry, NoMemory};
+use sl_base_quotients::{Entry, NoMemory};
 use std::alloc::Global;
 use std::marker::Model;
 
@@ -41,7 +41,7 @@ pub struct Prio {
 
 impl Model for Prio {
     ghost use Rattle.std.specs.Prelude.{List};
-    ghost use Rattle.sl_ratio.specs.declared.entry.Entry.{Entry};
+    ghost use Rattle.sl_base_quotients.specs.declared.entry.Entry.{Entry};
     ghost use Rattle.sl_prio.specs.inner.Heap.{IsTable};
 
     ghost Value = { List Entry };

@@ -1,7 +1,7 @@
 -- The first of the best quotients, found by a search through the entries in order.
 use Rattle.std.proofs.Common.{◌≡◌, ℕ, ◌+◌, ◌<◌, Option, Some, None, inl, inr, refl, subst, arith}
 use Rattle.std.proofs.lemmas.Bool.{cases_lt}
-use Rattle.sl_ratio.specs.Quotient.{Quotient}
+use Rattle.sl_base_quotients.specs.Quotient.{Quotient}
 
 -- what is searched for: the candidates, the quotient of each, and how quotients rank: x reaches y, or x beats y
 pub record Search : Type 1 where

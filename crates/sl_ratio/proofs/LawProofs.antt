@@ -5,10 +5,10 @@ use Rattle.std.specs.Cmp.{nat_cmp_is}
 use Rattle.std.specs.declared.cmp.Ordering.{Ordering}
 use Rattle.std.specs.declared.cmp.Ordering.TheVariants.{Less, Equal, Greater}
 use Rattle.std.specs.Ordering.{nat_cmp, ordering_then}
-use Rattle.sl_ratio.specs.inner.EntryLaws.{quotient_cmp-positive}
+use Rattle.sl_base_quotients.specs.inner.EntryLaws.{quotient_cmp-positive}
 use Rattle.sl_ratio.specs.Laws.{FiveMethods, InfiniteQuotients, QuotientsChain, EntryOrder, Limits}
-use Rattle.sl_ratio.specs.inner.QuotientLaws.{quotient_positive, quotient_fits, quotient_falls, quotient_rises}
-use Rattle.sl_ratio.proofs.Order.{AtMost-trans}
+use Rattle.sl_base_quotients.specs.inner.QuotientLaws.{quotient_positive, quotient_fits, quotient_falls, quotient_rises}
+use Rattle.sl_base_quotients.proofs.Order.{AtMost-trans}
 
 pub five_methods : FiveMethods
 five_methods method = record {

@@ -1,5 +1,3 @@
-pub mod NameLists
-pub mod Order
 pub mod Firsts
 pub mod Searches
 pub mod Rounding

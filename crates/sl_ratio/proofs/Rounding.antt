@@ -2,12 +2,12 @@
 use Rattle.std.proofs.Common.{◌≡◌, ℕ, zero, suc, ◌+◌, ◌-◌, ◌*◌, ◌/◌, ◌<◌, ◌≤◌, List, get_or, inl, inr, arith, subst}
 use Rattle.std.proofs.Math.Nat.{div-eq_of_lt-le, mul-le-mul_right}
 use Rattle.std.proofs.lemmas.Bool.{cases_lt}
-use Rattle.sl_ratio.specs.declared.method.Divisor.{Divisor}
-use Rattle.sl_ratio.specs.declared.method.Divisor.TheVariants.{Adams, Webster, Jefferson}
-use Rattle.sl_ratio.specs.Bounds.{HasWeight, last_quotient, next_quotient, Between}
+use Rattle.sl_base_quotients.specs.declared.method.Divisor.{Divisor}
+use Rattle.sl_base_quotients.specs.declared.method.Divisor.TheVariants.{Adams, Webster, Jefferson}
+use Rattle.sl_base_quotients.specs.Bounds.{HasWeight, last_quotient, next_quotient, Between}
 use Rattle.sl_ratio.specs.Laws.{EveryDivisorBetween}
-use Rattle.sl_ratio.specs.Quotient.{Quotient, Below, quotient}
-use Rattle.sl_ratio.proofs.Order.{AtMost-Below, Below-AtMost}
+use Rattle.sl_base_quotients.specs.Quotient.{Quotient, Below, quotient}
+use Rattle.sl_base_quotients.proofs.Order.{AtMost-Below, Below-AtMost}
 
 rounded : (n d k : ℕ) → 0 < d → k * d ≤ n → n < (k + 1) * d → n / d ≡ k
 rounded n d k pos low high = div-eq_of_lt-le d low high

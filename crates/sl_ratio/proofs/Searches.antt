@@ -6,13 +6,13 @@ use Rattle.std.proofs.lemmas.Grind.{get_or_default_zero}
 use Rattle.std.proofs.lemmas.List.{get_or_past}
 use Rattle.std.proofs.lemmas.List.Sums.{sum_by-cons}
 use Rattle.std.specs.Ordering.{is_le, is_ge, nat_cmp}
-use Rattle.sl_ratio.specs.declared.method.Divisor.{Divisor}
-use Rattle.sl_ratio.specs.Quotient.{Quotient, AtMost, Below, quotient}
+use Rattle.sl_base_quotients.specs.declared.method.Divisor.{Divisor}
+use Rattle.sl_base_quotients.specs.Quotient.{Quotient, AtMost, Below, quotient}
 use Rattle.std.specs.Bool.{then_some}
-use Rattle.sl_ratio.specs.Bounds.{HasWeight, IsLastBound, IsNextBound, last_quotient, next_quotient}
+use Rattle.sl_base_quotients.specs.Bounds.{HasWeight, IsLastBound, IsNextBound, last_quotient, next_quotient}
 use Rattle.sl_ratio.specs.inner.Picks.{lesser, greater}
-use Rattle.sl_ratio.specs.inner.QuotientLaws.{quotient_positive}
-use Rattle.sl_ratio.proofs.Order.{Below-AtMost, AtMost-Below}
+use Rattle.sl_base_quotients.specs.inner.QuotientLaws.{quotient_positive}
+use Rattle.sl_base_quotients.proofs.Order.{Below-AtMost, AtMost-Below}
 use Rattle.sl_ratio.proofs.Firsts.{Search, IsRanking, Found, skipped, kept, started, taken}
 
 -- the least quotient among the last seats awarded, and the greatest among the next ones

@@ -2,15 +2,15 @@
 use Rattle.std.specs.Prelude.{◌≡◌, ℕ, ◌^◌, ◌<◌, List, nat_eq, if◌then◌else◌}
 use Rattle.std.specs.declared.cmp.Ordering.TheVariants.{Equal, Greater}
 use Rattle.std.specs.Ordering.{nat_cmp, ordering_then}
-use Rattle.sl_ratio.specs.declared.entry.Entry.{Entry}
-use Rattle.sl_ratio.specs.declared.limits.TheConstants.{MAX_NUMBER, MAX_SEATS, MAX_WEIGHT}
-use Rattle.sl_ratio.specs.declared.method.Divisor.{Divisor}
-use Rattle.sl_ratio.specs.declared.names.TheConstants.{MAX_NAME_BYTES}
-use Rattle.sl_ratio.specs.declared.ratio.TheConstants.{MAX_NUMERATOR, MAX_DENOMINATOR}
-use Rattle.sl_ratio.specs.Bounds.{Rounds}
-use Rattle.sl_ratio.specs.Entry.{entry_cmp}
-use Rattle.sl_ratio.specs.Quotient.{Quotient, FitsRatio, AtMost, compare, quotient}
-use Rattle.sl_ratio.specs.Signpost.{IsSignpost}
+use Rattle.sl_base_quotients.specs.declared.entry.Entry.{Entry}
+use Rattle.sl_base_quotients.specs.declared.limits.TheConstants.{MAX_NUMBER, MAX_SEATS, MAX_WEIGHT}
+use Rattle.sl_base_quotients.specs.declared.method.Divisor.{Divisor}
+use Rattle.sl_base_quotients.specs.declared.spelling.TheConstants.{MAX_NAME_BYTES}
+use Rattle.sl_base_quotients.specs.declared.ratio.TheConstants.{MAX_NUMERATOR, MAX_DENOMINATOR}
+use Rattle.sl_base_quotients.specs.Bounds.{Rounds}
+use Rattle.sl_base_quotients.specs.Entry.{entry_cmp}
+use Rattle.sl_base_quotients.specs.Quotient.{Quotient, FitsRatio, AtMost, compare, quotient}
+use Rattle.sl_base_quotients.specs.Signpost.{IsSignpost}
 
 -- each of the five methods is a divisor method
 abbrev pub FiveMethods : Type 0

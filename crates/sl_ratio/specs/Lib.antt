@@ -1,7 +1,2 @@
-pub mod Quotient
-pub mod Signpost
-pub mod Entry
-pub mod Bounds
-pub mod Names
 pub mod Laws
 pub mod inner

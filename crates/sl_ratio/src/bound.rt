@@ -2,13 +2,11 @@
 
 ghost use Rattle.std.specs.Prelude.{◌≡◌, ◌-◌, ◌*◌, ◌<◌, ◌≤◌, Some, length, sum, MatchOption};
 ghost use Rattle.std.specs.List.{All};
-ghost use Rattle.sl_ratio.specs.Bounds.{AreBounds, IsRounding, IsLastBound, IsNextBound};
-ghost use Rattle.sl_ratio.specs.Quotient.{quotient};
+ghost use Rattle.sl_base_quotients.specs.Bounds.{AreBounds, IsRounding, IsLastBound, IsNextBound};
+ghost use Rattle.sl_base_quotients.specs.Quotient.{quotient};
 ghost use Rattle.sl_ratio.specs.inner.Picks.{lesser, greater};
 
-use crate::limits::{MAX_SEATS, MAX_WEIGHT};
-use crate::method::Divisor;
-use crate::ratio::Ratio;
+use sl_base_quotients::{Divisor, MAX_SEATS, MAX_WEIGHT, Ratio};
 
 // The lesser of two quotients, the one found before where they are equal.
 fn lesser(found: Option<Ratio>, quotient: Ratio) -> Ratio

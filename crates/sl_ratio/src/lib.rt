@@ -1,26 +1,19 @@
-//! Quotients as ratios of whole numbers, the methods of apportionment, the bounds of an allocation, lists of names, and the refusal of every call that
-//! allocates.
+//! Lists of names, the bounds of an allocation, whole parts with remainders, and the laws of quotients; hands on what they stand on.
 //!
-//! Stands on no other crate; used by the rooms base, book and explain. Proved: the order is that of quotients, and a list of names has each once.
+//! Stands on `sl_base_quotients`; used by the rooms law, returns and count. Proved: a list of names has each once, and the bounds are those of the
+//! definition.
 #![tactic(auto)]
 
 mod bound;
-mod entry;
 pub mod laws;
-mod limits;
-mod method;
 mod names;
-mod no_memory;
-mod ratio;
 mod remainder;
-mod signpost;
 
 pub use bound::bounds;
-pub use entry::Entry;
-pub use limits::{MAX_LANDS, MAX_NUMBER, MAX_PARTIES, MAX_SEATS, MAX_VOTES, MAX_WEIGHT};
-pub use method::{DIVISORS, Divisor, Method};
-pub use names::{MAX_NAME_BYTES, NameFault, Names, spelling_fault};
-pub use no_memory::NoMemory;
-pub use ratio::{MAX_DENOMINATOR, MAX_NUMERATOR, Ratio};
+pub use names::Names;
 pub use remainder::hare;
-pub use signpost::{Adams, Dean, Hill, Jefferson, Signpost, Webster};
+pub use sl_base_quotients::{
+    Adams, DIVISORS, Dean, Divisor, Entry, Hill, Jefferson, MAX_DENOMINATOR, MAX_LANDS,
+    MAX_NAME_BYTES, MAX_NUMBER, MAX_NUMERATOR, MAX_PARTIES, MAX_SEATS, MAX_VOTES, MAX_WEIGHT,
+    Method, NameFault, NoMemory, Ratio, Signpost, Webster, spelling_fault,
+};

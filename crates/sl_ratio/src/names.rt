@@ -1,85 +1,12 @@
 //! Lists of names, each of which has the number of its place.
 
 ghost use Rattle.std.specs.Prelude.{◌≡◌, ◌≢◌, ℕ, ◌<◌, ◌≤◌, ◌↔◌, IsTrue, [], ◌∷◌, ◌++◌, length, slice_get, Some, None, OnOk, IfOk, OnErr, IfErr, IfSome};
-ghost use Rattle.std.specs.List.{list_all};
-ghost use Rattle.sl_ratio.specs.Names.{NameList, IsNameList, Refuses, is_name, is_name_byte, name_fault, number_of, spelling_fault};
+ghost use Rattle.sl_base_quotients.specs.Names.{NameList, IsNameList, Refuses, is_name, name_fault, number_of};
 
 use indexmap::IndexSet;
+use sl_base_quotients::{NameFault, spelling_fault};
 use std::alloc::{AllocError, Global};
-use std::error::Error;
-use std::fmt;
 use std::marker::Model;
-
-/// The greatest number of bytes in a name.
-pub const MAX_NAME_BYTES: usize = 12;
-
-/// Why a name is not added, the first that applies in this order.
-#[derive(Clone, Copy, Debug, PartialEq, Eq)]
-pub enum NameFault {
-    /// The name is empty.
-    Empty,
-    /// It has more than `MAX_NAME_BYTES` bytes.
-    TooLong,
-    /// It has a byte that is no letter, digit, `_` or `-`.
-    BadByte,
-    /// It is there already.
-    Twice,
-    /// There are as many names as there may be.
-    Full,
-    /// Memory is wanting.
-    NoMemory,
-}
-
-impl NameFault {
-    // What it says.
-    fn text(self) -> &'static str {
-        match self {
-            NameFault::Empty => "the name is empty",
-            NameFault::TooLong => "the name is too long",
-            NameFault::BadByte => "the name has a byte that is no letter, digit, `_` or `-`",
-            NameFault::Twice => "the name is there already",
-            NameFault::Full => "there are as many names as there may be",
-            NameFault::NoMemory => "out of memory",
-        }
-    }
-}
-
-impl fmt::Display for NameFault {
-    fn fmt<W: fmt::Write>(&self, f: &mut fmt::Formatter<W>) -> fmt::Result {
-        f.write_str(self.text())
-    }
-}
-
-impl Error for NameFault {}
-
-// Whether a name may have the byte.
-fn is_name_byte(byte: u8) -> bool
-    ensures { result ≡ is_name_byte byte }
-{
-    byte.is_ascii_alphanumeric() || byte == b'_' || byte == b'-'
-}
-
-// Whether a name may have each of the bytes.
-fn are_name_bytes(name: &[u8]) -> bool
-    ensures { result ≡ list_all is_name_byte name.now }
-{
-    name.iter().all(|byte| is_name_byte(*byte))
-}
-
-/// What is wrong with the spelling of a name: `Empty`, `TooLong` or `BadByte`, the first that applies.
-pub fn spelling_fault(name: &[u8]) -> Option<NameFault>
-    ensures { result ≡ spelling_fault name.now }
-{
-    if name.is_empty() {
-        Some(NameFault::Empty)
-    } else if name.len() > MAX_NAME_BYTES {
-        Some(NameFault::TooLong)
-    } else if !are_name_bytes(name) {
-        Some(NameFault::BadByte)
-    } else {
-        None
-    }
-}
 
 // So many names have room from the first on, if there may be so many: an index that grows is made again each time.
 const FIRST_ROOM: usize = 512;
@@ -94,7 +21,7 @@ pub struct Names {
 
 impl Model for Names {
     ghost use Rattle.std.specs.Prelude.{map};
-    ghost use Rattle.sl_ratio.specs.Names.{NameList, IsNameList};
+    ghost use Rattle.sl_base_quotients.specs.Names.{NameList, IsNameList};
 
     ghost Value = { NameList };
 

@@ -2,7 +2,7 @@
 
 ghost use Rattle.std.specs.Prelude.{◌≡◌, ◌+◌, ◌*◌, ◌<◌, ◌≤◌};
 
-use crate::limits::MAX_SEATS;
+use sl_base_quotients::MAX_SEATS;
 
 /// The whole part and the remainder of an entry's share of `s` seats, with `v` of `total` votes (Hamilton's method; Balinski and
 /// Young, Fair Representation).

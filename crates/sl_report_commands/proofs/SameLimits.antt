@@ -5,10 +5,10 @@ use Rattle.std.proofs.lemmas.List.{length-map, with_items_is}
 use Rattle.std.specs.List.{list_all}
 use Rattle.std.specs.Vec.{with_items}
 use Rattle.std.specs.declared.vec.Vec.{Vec}
-use Rattle.sl_ratio.specs.declared.method.Method.{Method}
-use Rattle.sl_stages.specs.book.Limits.{are_small, book_numbers, depth_of, is_within_limits, is_within_stage, numbers_of, parts_of}
-use Rattle.sl_stages.specs.declared.book.Stage.{Stage}
-use Rattle.sl_stages.specs.book.Trees.{BookTree, ExprTree, StageTree, atleast, fact, grow, name, pair, split, stage_of, sum, without}
+use Rattle.sl_base_quotients.specs.declared.method.Method.{Method}
+use Rattle.sl_law_meaning.specs.book.Limits.{are_small, book_numbers, depth_of, is_within_limits, is_within_stage, numbers_of, parts_of}
+use Rattle.sl_law_meaning.specs.declared.book.Stage.{Stage}
+use Rattle.sl_law_meaning.specs.book.Trees.{BookTree, ExprTree, StageTree, atleast, fact, grow, name, pair, split, stage_of, sum, without}
 use Rattle.sl_report_commands.specs.Methods.{expr_by_method, stage_by_method}
 
 module _ (by : Method) where

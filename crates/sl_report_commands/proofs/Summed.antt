@@ -17,9 +17,9 @@ use Rattle.sl_report_commands.specs.declared.comparison.Compared.{Compared}
 use Rattle.sl_report_commands.specs.declared.comparison.Named.{Named}
 use Rattle.sl_report_commands.specs.inner.Answered.{IsComparisonBy, IsJudgedBook, IsTotalsBy}
 use Rattle.sl_report_forms.specs.Tables.{Table}
-use Rattle.sl_stages.proofs.meaning.Members.{all_and_one}
-use Rattle.sl_stages.specs.declared.checked.CheckedBook.{CheckedBook}
-use Rattle.sl_stages.specs.returns.Election.{Election}
+use Rattle.sl_law_meaning.proofs.meaning.Members.{all_and_one}
+use Rattle.sl_law_meaning.specs.declared.checked.CheckedBook.{CheckedBook}
+use Rattle.sl_law_meaning.specs.returns.Election.{Election}
 
 module _ (are_refused : Bool) (returns : List ℕ) (ends : Status) (tables : List Table) where
   pub totals_of : (input : Option BookInput) (book : Option (Verdict CheckedBook RefusedBook)) (v : Verdict Election RefusedElection) → IsJudgedBook input book

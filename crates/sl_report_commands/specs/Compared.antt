@@ -5,14 +5,14 @@ use Rattle.sl_report_commands.specs.declared.comparison.Compared.{Compared}
 use Rattle.sl_report_forms.specs.Tables.{Table}
 use Rattle.sl_report_tables.specs.Compare.{AreComparison}
 use Rattle.sl_report_tables.specs.declared.compare.Judged.{Judged}
-use Rattle.sl_stages.specs.book.Books.{book_of}
-use Rattle.sl_stages.specs.declared.count.Counted.{Counted as Kept}
-use Rattle.sl_stages.specs.declared.count.End.TheVariants.{Counted, Fault}
-use Rattle.sl_stages.specs.declared.count.End.{End}
-use Rattle.sl_stages.specs.declared.count.Records.TheVariants.{Dropped}
-use Rattle.sl_stages.specs.declared.fault.LegalFault.{LegalFault}
-use Rattle.sl_stages.specs.meaning.Counts.{IsMeantEnd}
-use Rattle.sl_stages.specs.returns.Election.{Election}
+use Rattle.sl_law_meaning.specs.book.Books.{book_of}
+use Rattle.sl_law_meaning.specs.declared.count.Counted.{Counted as Kept}
+use Rattle.sl_law_meaning.specs.declared.count.End.TheVariants.{Counted, Fault}
+use Rattle.sl_law_meaning.specs.declared.count.End.{End}
+use Rattle.sl_law_meaning.specs.declared.count.Records.TheVariants.{Dropped}
+use Rattle.sl_law_meaning.specs.declared.fault.LegalFault.{LegalFault}
+use Rattle.sl_law_meaning.specs.meaning.Counts.{IsMeantEnd}
+use Rattle.sl_law_meaning.specs.returns.Election.{Election}
 
 abbrev pub counted_of : End → Option Kept
 counted_of (Counted c) = Some c

@@ -19,8 +19,8 @@ use Rattle.sl_report_commands.specs.declared.comparison.Named.{Named}
 use Rattle.sl_report_forms.specs.declared.heading.DigestedInput.{DigestedInput}
 use Rattle.sl_report_tables.specs.declared.answer.Shape.TheVariants as shape
 use Rattle.sl_report_tables.specs.declared.answer.Shape.{Shape}
-use Rattle.sl_stages.specs.declared.checked.CheckedBook.{CheckedBook}
-use Rattle.sl_stages.specs.returns.Election.{Election}
+use Rattle.sl_law_meaning.specs.declared.checked.CheckedBook.{CheckedBook}
+use Rattle.sl_law_meaning.specs.returns.Election.{Election}
 
 -- the bytes of a rulebook: none of a name that the library does not have
 abbrev pub bytes_of : BookInput → List ℕ

@@ -5,10 +5,10 @@ use Rattle.sl_count_inputs.specs.declared.refusal.BookRefusal.TheVariants as boo
 use Rattle.sl_count_inputs.specs.declared.refusal.BookRefusal.{BookRefusal}
 use Rattle.sl_count_inputs.specs.declared.verdict.Verdict.TheVariants.{Good, Refused}
 use Rattle.sl_count_inputs.specs.declared.verdict.Verdict.{Verdict}
-use Rattle.sl_ratio.specs.declared.method.Method.{Method}
-use Rattle.sl_stages.specs.book.Trees.{BookTree, ExprTree, StageTree, atleast, fact, grow, name, pair, split, sum, without}
-use Rattle.sl_stages.specs.book.Typing.{check_fault}
-use Rattle.sl_stages.specs.declared.check_fault.CheckFault.{CheckFault}
+use Rattle.sl_base_quotients.specs.declared.method.Method.{Method}
+use Rattle.sl_law_meaning.specs.book.Trees.{BookTree, ExprTree, StageTree, atleast, fact, grow, name, pair, split, sum, without}
+use Rattle.sl_law_meaning.specs.book.Typing.{check_fault}
+use Rattle.sl_law_meaning.specs.declared.check_fault.CheckFault.{CheckFault}
 
 -- ---- trees
 

@@ -10,7 +10,7 @@ use Rattle.sl_report_commands.specs.Statuses.{is_stopped, judged_status}
 use Rattle.sl_report_forms.specs.Tables.{Table}
 use Rattle.sl_report_tables.specs.Reports.{Shows}
 use Rattle.sl_report_tables.specs.declared.counts.Show.{Show}
-use Rattle.sl_stages.specs.declared.count.Records.TheVariants.{Kept}
+use Rattle.sl_law_meaning.specs.declared.count.Records.TheVariants.{Kept}
 
 -- the tables that show what inputs come to: those of the count, and none where one of them is refused
 abbrev pub ShowsJudged : Show → Judged → List Table → Type 0

@@ -7,7 +7,7 @@ use Rattle.sl_count_calls.specs.Judged.{IsJudged}
 use Rattle.sl_count_calls.specs.declared.judged.Judged.TheVariants.{BookRefused, Counted, ReturnsRefused, StageUnknown}
 use Rattle.sl_count_calls.specs.declared.judged.Judged.{Judged}
 use Rattle.sl_report_tables.specs.Ends.{end_status}
-use Rattle.sl_stages.specs.declared.count.Records.TheVariants.{Kept}
+use Rattle.sl_law_meaning.specs.declared.count.Records.TheVariants.{Kept}
 
 -- the status of what inputs come to: 0 with a table, 3 with a legal fault, 2 where one of them is refused
 abbrev pub judged_status : Judged → Status

@@ -16,9 +16,9 @@ use Rattle.sl_report_commands.specs.declared.comparison.Compared.{Compared}
 use Rattle.sl_report_commands.specs.declared.comparison.Named.{Named}
 use Rattle.sl_report_forms.specs.Tables.{Table}
 use Rattle.sl_report_tables.specs.Totals.{AreTotals}
-use Rattle.sl_stages.specs.book.Books.{book_of}
-use Rattle.sl_stages.specs.declared.book.Book.{Book}
-use Rattle.sl_stages.specs.returns.Election.{Election}
+use Rattle.sl_law_meaning.specs.book.Books.{book_of}
+use Rattle.sl_law_meaning.specs.declared.book.Book.{Book}
+use Rattle.sl_law_meaning.specs.returns.Election.{Election}
 
 -- a refusal has no table
 abbrev pub IsRefusal : Status → List Table → Type 0

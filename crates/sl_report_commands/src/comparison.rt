@@ -14,6 +14,7 @@ ghost use Rattle.sl_report_tables.specs.Names.{are_refused};
 use crate::further::add_refused;
 use crate::sums::ReturnsVerdict;
 use crate::written::{Reasoned, Style, Written, bytes_of, digested_unjudged, push_digested};
+use sl_base_quotients::NoMemory;
 use sl_count_calls::{End, Records, outcome_of};
 use sl_count_inputs::{
     BookText, Input, MAX_BOOK_BYTES, RefusedBook, RefusedElection, Verdict, judge_book,
@@ -22,7 +23,6 @@ use sl_count_inputs::{
 use sl_explain_calls::{Explained, explain_book};
 use sl_explain_texts::Language;
 use sl_laws::law;
-use sl_ratio::NoMemory;
 use sl_report_forms::DigestedInput;
 use sl_report_tables::{Answer, FullNames, Judged, comparison_answer, names_of};
 use sl_stages::{CheckedBook, Counted, LegalFault, Returns};

@@ -3,10 +3,10 @@
 ghost use Rattle.std.specs.Prelude.{◌≡◌};
 ghost use Rattle.sl_explain_calls.specs.Codes.{subject_of};
 
+use sl_base_quotients::NoMemory;
 use sl_count_inputs::RefusedBook;
 use sl_explain_calls::{Explained, explain_book};
 use sl_explain_texts::{Language, Message, push_shown};
-use sl_ratio::NoMemory;
 use std::alloc::Global;
 
 // Values: the word that names the rulebook, and what is wrong with it.

@@ -3,14 +3,14 @@
 ghost use Rattle.std.specs.Prelude.{◌≡◌, IfOk, map};
 ghost use Rattle.sl_count_inputs.specs.Judging.{tree_verdict};
 ghost use Rattle.sl_report_commands.specs.Methods.{IsTreeVerdictBy, by_method, expr_by_method, stage_by_method};
-ghost use Rattle.sl_stages.specs.book.Books.{book_of};
-ghost use Rattle.sl_stages.specs.book.Trees.{stage_of, tree_of};
+ghost use Rattle.sl_law_meaning.specs.book.Books.{book_of};
+ghost use Rattle.sl_law_meaning.specs.book.Trees.{stage_of, tree_of};
 
 use crate::sums::BookVerdict;
+use sl_base_quotients::{Method, NoMemory};
 use sl_book_copies::copy_book;
 use sl_check::check;
 use sl_count_inputs::{RefusedBook, Verdict};
-use sl_ratio::{Method, NoMemory};
 use sl_stages::{Book, CheckedBook, Expr, Stage};
 use std::alloc::Global;
 

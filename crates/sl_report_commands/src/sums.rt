@@ -14,10 +14,10 @@ use crate::written::{
     Reasoned, Style, Texts, Written, bytes_of, digested_book, digested_returns, push_digested,
     refusal_of,
 };
+use sl_base_quotients::NoMemory;
 use sl_count_calls::Judged;
 use sl_count_inputs::{BookText, RefusedBook, RefusedElection, Verdict, judge_book, judge_returns};
 use sl_explain_texts::Language;
-use sl_ratio::NoMemory;
 use sl_report_forms::DigestedInput;
 pub use sl_report_tables::totals_answer;
 use sl_report_tables::{Answer, FullNames, names_of};

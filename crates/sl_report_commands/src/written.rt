@@ -6,6 +6,7 @@ ghost use Rattle.sl_report_commands.specs.Digests.{book_digest, bytes_of, count_
 ghost use Rattle.sl_report_commands.specs.Summaries.{IsRefusal};
 ghost use Rattle.sl_report_forms.specs.Tables.{table_of};
 
+use sl_base_quotients::NoMemory;
 use sl_count_calls::Judged;
 use sl_count_inputs::{
     BookText, DeskError, Input, MAX_RETURNS_BYTES, RefusedBook, RefusedElection, Verdict,
@@ -13,7 +14,6 @@ use sl_count_inputs::{
 use sl_explain_calls::{Explained, explain_book, explain_election, explain_judged};
 use sl_explain_texts::{Explanation, Language};
 use sl_laws::law;
-use sl_ratio::NoMemory;
 use sl_report_forms::{DigestedInput, Heading, Told, json_text};
 use sl_report_tables::{Answer, Shape, Show};
 use std::alloc::Global;

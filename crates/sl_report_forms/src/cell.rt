@@ -1,7 +1,7 @@
 //! The cells of a sheet.
 
 use crate::draft::{Draft, copied};
-use sl_ratio::NoMemory;
+use sl_base_quotients::NoMemory;
 use std::alloc::Global;
 use std::cmp::Ordering;
 

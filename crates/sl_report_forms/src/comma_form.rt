@@ -3,7 +3,7 @@
 use crate::cell::Cell;
 use crate::draft::Draft;
 use crate::sheet::{Head, Sheet};
-use sl_ratio::NoMemory;
+use sl_base_quotients::NoMemory;
 use std::alloc::Global;
 
 // Whether a text has a character that must stand between quotes.

@@ -1,6 +1,6 @@
 //! Texts and lists that are written from the begin to the end. Where memory runs out, they say so at their end.
 
-use sl_ratio::NoMemory;
+use sl_base_quotients::NoMemory;
 use std::alloc::Global;
 
 /// A copy of a text.

@@ -5,8 +5,8 @@ use crate::draft::Draft;
 use crate::heading::Heading;
 use crate::sheet::{Look, Sheet};
 use crate::shown::{Shown, ShownColumn, shown_of};
+use sl_base_quotients::NoMemory;
 use sl_explain_texts::{Language, Message};
-use sl_ratio::NoMemory;
 use std::alloc::Global;
 
 // The titles of the pages of the commands.

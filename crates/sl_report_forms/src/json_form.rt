@@ -7,7 +7,7 @@ use crate::json_heading::put_heading;
 use crate::json_values::{Members, array_value, text_value};
 use crate::sheet::{Head, Sheet};
 use serde_json::{Number, Value};
-use sl_ratio::NoMemory;
+use sl_base_quotients::NoMemory;
 use std::alloc::Global;
 
 fn names_value(alloc: Global, names: &[String]) -> Result<Value, NoMemory> {

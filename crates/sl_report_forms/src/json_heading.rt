@@ -4,8 +4,8 @@ use crate::draft::{Draft, Filled};
 use crate::heading::{DigestedInput, Heading, Told};
 use crate::json_values::{Members, array_value, bytes_value};
 use serde_json::Value;
+use sl_base_quotients::NoMemory;
 use sl_explain_texts::{FaultCode, Remedy, Span, VERSION, line_at};
-use sl_ratio::NoMemory;
 use std::alloc::Global;
 
 /// The version of the JSON, as docs/report.schema.json has it.

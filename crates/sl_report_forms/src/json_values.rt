@@ -2,7 +2,7 @@
 
 use crate::draft::Filled;
 use serde_json::{Map, Number, Value, put};
-use sl_ratio::NoMemory;
+use sl_base_quotients::NoMemory;
 use std::alloc::Global;
 
 pub(crate) fn text_value(alloc: Global, text: &str) -> Result<Value, NoMemory> {

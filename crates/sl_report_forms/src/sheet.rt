@@ -5,7 +5,7 @@ ghost use Rattle.sl_report_forms.specs.Cells.{a_change, a_flag, a_number, a_text
 ghost use Rattle.sl_report_forms.specs.Tables.{blank_table, contents_of, table_of, with_columns, with_rows};
 
 use crate::cell::Cell;
-use sl_ratio::NoMemory;
+use sl_base_quotients::NoMemory;
 use std::alloc::Global;
 
 /// How a column looks in aligned text.

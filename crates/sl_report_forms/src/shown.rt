@@ -3,7 +3,7 @@
 use crate::cell::Cell;
 use crate::draft::{Filled, copied};
 use crate::sheet::{Head, Look, Sheet};
-use sl_ratio::NoMemory;
+use sl_base_quotients::NoMemory;
 use std::alloc::Global;
 
 /// A column of a sheet that is shown: its place, and its look.

@@ -3,7 +3,7 @@
 use crate::draft::{Draft, Filled};
 use crate::sheet::{Look, Sheet};
 use crate::shown::{Shown, ShownColumn, shown_of};
-use sl_ratio::NoMemory;
+use sl_base_quotients::NoMemory;
 use std::alloc::Global;
 use unicode_width::{UnicodeWidthChar, UnicodeWidthStr};
 

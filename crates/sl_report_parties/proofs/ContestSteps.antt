@@ -14,11 +14,11 @@ use Rattle.std.proofs.lemmas.List.Sorted.{answers_always}
 use Rattle.sl_report_parties.proofs.Steps.{filter_next}
 use Rattle.sl_report_parties.specs.Ranks.{AddsContested, AreByRank, is_contested, winners_of_list}
 use Rattle.sl_report_parties.specs.declared.contests.Ranked.{Ranked}
-use Rattle.sl_stages.specs.declared.book.Cond.{Cond}
-use Rattle.sl_stages.specs.declared.table.ListSeats.{ListSeats}
-use Rattle.sl_stages.specs.meaning.Tables.{SeatTable}
-use Rattle.sl_stages.specs.returns.Election.{Election}
-use Rattle.sl_stages.proofs.meaning.Members.{all_and_one}
+use Rattle.sl_law_meaning.specs.declared.book.Cond.{Cond}
+use Rattle.sl_law_meaning.specs.declared.table.ListSeats.{ListSeats}
+use Rattle.sl_law_meaning.specs.meaning.Tables.{SeatTable}
+use Rattle.sl_law_meaning.specs.returns.Election.{Election}
+use Rattle.sl_law_meaning.proofs.meaning.Members.{all_and_one}
 
 pub numbered_at : {X : Type 0} (xs : List X) (n : ℕ) (x : X) → slice_get xs n ≡ Some x → slice_get (enumerate_from 0 xs) n ≡ Some (n, x)
 numbered_at xs n x there =

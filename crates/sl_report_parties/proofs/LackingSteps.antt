@@ -3,7 +3,7 @@ use Rattle.std.proofs.Common.{◌≡◌, ℕ, ◌+◌, ◌^◌, ◌<◌, ◌≤�
 use Rattle.std.proofs.lemmas.Bool.{cases_lt}
 use Rattle.std.proofs.lemmas.List.{take_more}
 use Rattle.sl_report_parties.specs.Lacking.{ForOne, IsLeastIfAny, lesser_of}
-use Rattle.sl_stages.specs.declared.book.Cond.{Cond}
+use Rattle.sl_law_meaning.specs.declared.book.Cond.{Cond}
 
 abbrev pub Fits : Option ℕ → Type 0
 Fits o = IfSome o (λ n. n < 2 ^ 64)

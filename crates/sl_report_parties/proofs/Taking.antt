@@ -1,9 +1,9 @@
 -- Who takes part, by what each party has.
 use Rattle.std.proofs.Common.{◌≡◌, ℕ, ◌<◌, List, length, get_or, is_some, arith, ap, ◌∙◌}
 use Rattle.std.proofs.lemmas.List.FromFn.{length-map-range_with_len, get_or-map-range_with_len}
-use Rattle.sl_stages.specs.declared.book.Cond.{Cond}
-use Rattle.sl_stages.specs.returns.Election.{Election, parties_of}
-use Rattle.sl_stages.specs.returns.Facts.{meets, is_eligible}
+use Rattle.sl_law_meaning.specs.declared.book.Cond.{Cond}
+use Rattle.sl_law_meaning.specs.returns.Election.{Election, parties_of}
+use Rattle.sl_law_meaning.specs.returns.Facts.{meets, is_eligible}
 use Rattle.sl_report_parties.specs.declared.parts.PartyPart.{PartyPart}
 use Rattle.sl_report_parties.specs.Parts.{part_of, parts_of}
 use Rattle.sl_report_parties.proofs.Steps.{some_first}

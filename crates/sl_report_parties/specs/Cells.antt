@@ -1,12 +1,12 @@
 -- The numbers of the facts, one by one.
 use Rattle.std.specs.Prelude.{ℕ, Bool, not, ◌&&◌, List, count_by, is_none, if◌then◌else◌}
-use Rattle.sl_stages.specs.declared.book.Cond.{Cond}
-use Rattle.sl_stages.specs.declared.fact.Fact.{Fact}
-use Rattle.sl_stages.specs.declared.fact.Fact.TheVariants as facts
-use Rattle.sl_stages.specs.declared.returns.Win.{Win}
-use Rattle.sl_stages.specs.returns.Votes.{counted_in}
-use Rattle.sl_stages.specs.returns.Election.{Election, list_at}
-use Rattle.sl_stages.specs.returns.Facts.{is_of, is_in, is_eligible, takes_part, is_on_list}
+use Rattle.sl_law_meaning.specs.declared.book.Cond.{Cond}
+use Rattle.sl_law_meaning.specs.declared.fact.Fact.{Fact}
+use Rattle.sl_law_meaning.specs.declared.fact.Fact.TheVariants as facts
+use Rattle.sl_law_meaning.specs.declared.election.Win.{Win}
+use Rattle.sl_law_meaning.specs.returns.Votes.{counted_in}
+use Rattle.sl_law_meaning.specs.returns.Election.{Election, list_at}
+use Rattle.sl_law_meaning.specs.returns.Facts.{is_of, is_in, is_eligible, takes_part, is_on_list}
 
 abbrev pub is_won : ℕ → ℕ → Win → Bool
 is_won land party w = is_in land w && is_of party w

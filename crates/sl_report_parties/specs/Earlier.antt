@@ -4,7 +4,7 @@ use Rattle.std.specs.List.{find, position}
 use Rattle.std.specs.Str.{bytes_eq}
 use Rattle.sl_report_parties.specs.Sums.{capped}
 use Rattle.sl_report_parties.specs.declared.earlier.EarlierParty.{EarlierParty}
-use Rattle.sl_stages.specs.returns.Election.{Election}
+use Rattle.sl_law_meaning.specs.returns.Election.{Election}
 
 -- the seats of the party of that name, none where there is no such party
 abbrev pub seats_before : List ℕ → List EarlierParty → ℕ

@@ -1,8 +1,8 @@
 -- What a party lacks for one of the conditions: the least number of further votes, or of further winners, that is enough.
 use Rattle.std.specs.Prelude.{◌≡◌, ◌⊎◌, ℕ, ◌+◌, ◌^◌, ◌<◌, ◌≤◌, List, [], ◌∷◌, Option, Some, None, MatchOption, min}
 use Rattle.sl_report_parties.specs.Parts.{IsEnough}
-use Rattle.sl_stages.specs.declared.book.Cond.{Cond}
-use Rattle.sl_stages.specs.declared.book.Cond.TheVariants as condition
+use Rattle.sl_law_meaning.specs.declared.book.Cond.{Cond}
+use Rattle.sl_law_meaning.specs.declared.book.Cond.TheVariants as condition
 
 -- with so many further valid votes, which are valid votes of all too, a party meets the condition as one on votes
 abbrev pub AreVotesFor : (has all : ℕ) → Cond → ℕ → Type 0

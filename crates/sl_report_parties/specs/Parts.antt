@@ -1,10 +1,10 @@
 -- What each party has, and by which condition it takes part.
 use Rattle.std.specs.Prelude.{ℕ, ◌+◌, ◌*◌, ◌≤◌, List, map, count_by}
 use Rattle.std.specs.List.{position}
-use Rattle.sl_stages.specs.declared.book.Cond.{Cond}
-use Rattle.sl_stages.specs.returns.Election.{Election}
-use Rattle.sl_stages.specs.returns.Votes.{counted_in}
-use Rattle.sl_stages.specs.returns.Facts.{parties, is_of, valid_votes, meets}
+use Rattle.sl_law_meaning.specs.declared.book.Cond.{Cond}
+use Rattle.sl_law_meaning.specs.returns.Election.{Election}
+use Rattle.sl_law_meaning.specs.returns.Votes.{counted_in}
+use Rattle.sl_law_meaning.specs.returns.Facts.{parties, is_of, valid_votes, meets}
 use Rattle.sl_report_parties.specs.declared.votes.Votes.{Votes}
 use Rattle.sl_report_parties.specs.declared.parts.PartyPart.{PartyPart}
 use Rattle.sl_report_parties.specs.Sums.{party_sum}

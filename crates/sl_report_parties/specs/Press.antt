@@ -8,10 +8,10 @@ use Rattle.sl_report_parties.specs.Seats.{party_seats}
 use Rattle.sl_report_parties.specs.declared.earlier.EarlierParty.{EarlierParty}
 use Rattle.sl_report_parties.specs.declared.press.Pressed.{Pressed}
 use Rattle.sl_report_parties.specs.declared.press.Standing.{Standing}
-use Rattle.sl_stages.specs.declared.book.Cond.{Cond}
-use Rattle.sl_stages.specs.meaning.Tables.{SeatTable}
-use Rattle.sl_stages.specs.returns.Election.{Election}
-use Rattle.sl_stages.specs.returns.Facts.{parties}
+use Rattle.sl_law_meaning.specs.declared.book.Cond.{Cond}
+use Rattle.sl_law_meaning.specs.meaning.Tables.{SeatTable}
+use Rattle.sl_law_meaning.specs.returns.Election.{Election}
+use Rattle.sl_law_meaning.specs.returns.Facts.{parties}
 
 -- how far a number is from the greatest of 64 bits: the greater, the less
 abbrev pub below_most : ℕ → ℕ

@@ -5,12 +5,12 @@ use Rattle.std.specs.List.{AllZip, enumerate_from}
 use Rattle.std.specs.Ordering.{nat_cmp}
 use Rattle.sl_report_parties.specs.Seats.{is_seated}
 use Rattle.sl_report_parties.specs.declared.contests.Ranked.{Ranked}
-use Rattle.sl_stages.specs.declared.book.Cond.{Cond}
-use Rattle.sl_stages.specs.declared.returns.Win.{Win}
-use Rattle.sl_stages.specs.declared.table.ListSeats.{ListSeats}
-use Rattle.sl_stages.specs.meaning.Tables.{SeatTable}
-use Rattle.sl_stages.specs.returns.Election.{Election, parties_of}
-use Rattle.sl_stages.specs.returns.Facts.{is_eligible, is_of}
+use Rattle.sl_law_meaning.specs.declared.book.Cond.{Cond}
+use Rattle.sl_law_meaning.specs.declared.election.Win.{Win}
+use Rattle.sl_law_meaning.specs.declared.table.ListSeats.{ListSeats}
+use Rattle.sl_law_meaning.specs.meaning.Tables.{SeatTable}
+use Rattle.sl_law_meaning.specs.returns.Election.{Election, parties_of}
+use Rattle.sl_law_meaning.specs.returns.Facts.{is_eligible, is_of}
 
 abbrev pub is_on : ListSeats → Win → Bool
 is_on l w = is_of l.party w && nat_eq w.land l.land

@@ -1,9 +1,9 @@
 -- Sums over the lists and the winners of an election.
 use Rattle.std.specs.Prelude.{ℕ, ◌^◌, ◌-◌, min, Bool, ◌&&◌, Option, Some, None, is_none, sum_by, count_by, if◌then◌else◌}
-use Rattle.sl_stages.specs.declared.returns.ListVotes.{ListVotes}
-use Rattle.sl_stages.specs.declared.returns.Win.{Win}
-use Rattle.sl_stages.specs.returns.Election.{Election, has_list, list_at}
-use Rattle.sl_stages.specs.returns.Facts.{lands, parties, is_of, is_in}
+use Rattle.sl_law_meaning.specs.declared.election.ListVotes.{ListVotes}
+use Rattle.sl_law_meaning.specs.declared.election.Win.{Win}
+use Rattle.sl_law_meaning.specs.returns.Election.{Election, has_list, list_at}
+use Rattle.sl_law_meaning.specs.returns.Facts.{lands, parties, is_of, is_in}
 
 -- what is recorded of the lists of a party, of those in a Land, and of all
 abbrev pub party_sum : (Option ListVotes → ℕ) → Election → ℕ → ℕ

@@ -6,7 +6,7 @@ ghost use Rattle.sl_report_parties.specs.Seats.{is_seated};
 
 use crate::facts::Setting;
 use crate::votes::one_if;
-use sl_ratio::NoMemory;
+use sl_base_quotients::NoMemory;
 use sl_stages::{ListSeats, Placed, Returns, Table, Win};
 use std::alloc::Global;
 

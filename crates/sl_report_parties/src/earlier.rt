@@ -4,7 +4,7 @@ ghost use Rattle.std.specs.Prelude.{◌++◌, ◌∷◌, [], ◌≡◌, IfOk, On
 ghost use Rattle.std.specs.Str.{bytes_eq};
 ghost use Rattle.sl_report_parties.specs.Earlier.{all_before, is_gone, seats_before};
 
-use sl_ratio::NoMemory;
+use sl_base_quotients::NoMemory;
 use sl_stages::Returns;
 use std::alloc::Global;
 

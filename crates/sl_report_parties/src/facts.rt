@@ -1,17 +1,17 @@
 //! The columns that a book can name, of returns.
 
 ghost use Rattle.std.specs.Prelude.{◌≡◌, ◌<◌, ◌∷◌, [], ◌++◌, map, IfOk, OnOk, count_by, unwrap_or, IsTrue};
-ghost use Rattle.sl_stages.specs.book.Books.{book_of};
-ghost use Rattle.sl_stages.specs.book.Typing.{fact_type, is_typed};
-ghost use Rattle.sl_stages.specs.returns.Election.{IsElection, IsWin, lands_of, parties_of};
-ghost use Rattle.sl_stages.specs.returns.Facts.{is_eligible, is_on_list, by_land, by_list, parties};
-ghost use Rattle.sl_stages.specs.meaning.Columns.{fact_column};
+ghost use Rattle.sl_law_meaning.specs.book.Books.{book_of};
+ghost use Rattle.sl_law_meaning.specs.book.Typing.{fact_type, is_typed};
+ghost use Rattle.sl_law_meaning.specs.returns.Election.{IsElection, IsWin, lands_of, parties_of};
+ghost use Rattle.sl_law_meaning.specs.returns.Facts.{is_eligible, is_on_list, by_land, by_list, parties};
+ghost use Rattle.sl_law_meaning.specs.meaning.Columns.{fact_column};
 ghost use Rattle.sl_report_parties.specs.Parts.{part_of, parts_of};
 ghost use Rattle.sl_report_parties.specs.Cells.{is_outside, is_won, list_cell, land_cell};
 
 use crate::parts::PartyPart;
 use crate::votes::{independents_in, one_if};
-use sl_ratio::NoMemory;
+use sl_base_quotients::NoMemory;
 use sl_stages::{Book, Column, Fact, Returns, Win};
 use std::alloc::Global;
 

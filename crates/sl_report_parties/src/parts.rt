@@ -2,12 +2,12 @@
 
 ghost use Rattle.std.specs.Prelude.{◌≡◌, ◌<◌, ◌^◌, ℕ, IfOk, MatchOption, count_by};
 ghost use Rattle.std.specs.List.{position};
-ghost use Rattle.sl_stages.specs.returns.Election.{parties_of};
-ghost use Rattle.sl_stages.specs.returns.Facts.{is_of, valid_votes, all_valid_votes, meets};
+ghost use Rattle.sl_law_meaning.specs.returns.Election.{parties_of};
+ghost use Rattle.sl_law_meaning.specs.returns.Facts.{is_of, valid_votes, all_valid_votes, meets};
 ghost use Rattle.sl_report_parties.specs.Parts.{part_of, parts_of, IsEnough, IsLeast};
 
 use crate::votes::{Votes, all_votes, party_votes, winners_of};
-use sl_ratio::NoMemory;
+use sl_base_quotients::NoMemory;
 use sl_stages::{Cond, Returns};
 use std::alloc::Global;
 

@@ -3,14 +3,14 @@
 ghost use Rattle.std.specs.Prelude.{◌≡◌, ◌<◌, ◌++◌, ◌∷◌, [], IfOk, OnOk, filter, map, option_map, slice_index_or};
 ghost use Rattle.sl_report_parties.specs.Earlier.{seats_before};
 ghost use Rattle.sl_report_parties.specs.Press.{AreLeftOut, ArePressed, below_most, is_left_out, is_pressed, pressed_of, standing_of};
-ghost use Rattle.sl_stages.specs.returns.Election.{parties_of};
-ghost use Rattle.sl_stages.specs.returns.Facts.{parties};
+ghost use Rattle.sl_law_meaning.specs.returns.Election.{parties_of};
+ghost use Rattle.sl_law_meaning.specs.returns.Facts.{parties};
 
 use crate::earlier::{EarlierParty, seats_before};
 use crate::facts::Setting;
 use crate::parts::PartyPart;
 use crate::seats::{Seats, seats_of};
-use sl_ratio::NoMemory;
+use sl_base_quotients::NoMemory;
 use sl_stages::{Returns, Table};
 use std::alloc::Global;
 

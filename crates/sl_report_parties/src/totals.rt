@@ -3,8 +3,8 @@
 ghost use Rattle.std.specs.Prelude.{◌≡◌, ◌<◌, count_by, slice_index, sum_by};
 ghost use Rattle.sl_report_parties.specs.Seats.{is_open};
 ghost use Rattle.sl_report_parties.specs.Sums.{capped, lists_of};
-ghost use Rattle.sl_stages.specs.returns.Election.{parties_of};
-ghost use Rattle.sl_stages.specs.returns.Facts.{lands, parties};
+ghost use Rattle.sl_law_meaning.specs.returns.Election.{parties_of};
+ghost use Rattle.sl_law_meaning.specs.returns.Facts.{lands, parties};
 
 use crate::votes::one_if;
 use sl_stages::{Placed, Returns, Table};

@@ -1,9 +1,9 @@
 //! Votes and winners, summed.
 
 ghost use Rattle.std.specs.Prelude.{◌≡◌, ◌<◌, ◌^◌, count_by};
-ghost use Rattle.sl_stages.specs.returns.Election.{lands_of, parties_of};
-ghost use Rattle.sl_stages.specs.returns.Votes.{valid_in, counted_in};
-ghost use Rattle.sl_stages.specs.returns.Facts.{is_in, valid_votes, all_valid_votes};
+ghost use Rattle.sl_law_meaning.specs.returns.Election.{lands_of, parties_of};
+ghost use Rattle.sl_law_meaning.specs.returns.Votes.{valid_in, counted_in};
+ghost use Rattle.sl_law_meaning.specs.returns.Facts.{is_in, valid_votes, all_valid_votes};
 ghost use Rattle.sl_report_parties.specs.Sums.{party_sum, land_sum, sum_in_all, is_with, is_alone_in, one_if};
 
 use sl_stages::{Returns, Win};

@@ -6,20 +6,20 @@ use Rattle.std.proofs.lemmas.Bool.{leb-true}
 use Rattle.std.proofs.lemmas.Option.{same_Some, slice_get-map}
 use Rattle.std.proofs.lemmas.List.{append-nil, length-map, length-take-le, take-map}
 use Rattle.std.proofs.lemmas.Simd.{map-map}
-use Rattle.sl_stages.specs.meaning.Counts.{HoldsStages}
-use Rattle.sl_stages.specs.declared.count.Column.{Column}
+use Rattle.sl_law_meaning.specs.meaning.Counts.{HoldsStages}
+use Rattle.sl_law_meaning.specs.declared.count.Column.{Column}
 use Rattle.sl_report_results.specs.Values.{HaveTypes, named_columns, types_before}
-use Rattle.sl_stages.specs.book.Books.{book_of}
-use Rattle.sl_stages.specs.book.Trees.{BookTree, StageTree, stage_of}
-use Rattle.sl_stages.specs.book.Typing.{Column as TypedColumn, columns_of, expr_tests, is_typed, splits_in, stage_column, stages_tests, tests_of}
-use Rattle.sl_stages.specs.declared.book.Book.{Book}
-use Rattle.sl_stages.specs.declared.book.Stage.{Stage}
-use Rattle.sl_stages.specs.laws.ColumnLaws.{FitsType, IsTypedAs}
-use Rattle.sl_stages.specs.meaning.Columns.{NamedColumn}
-use Rattle.sl_stages.specs.meaning.Means.{Known, StagesMean, Through, nothing_known, with_stage}
-use Rattle.sl_stages.specs.returns.Election.{Election, IsElection}
-use Rattle.sl_stages.proofs.meaning.OneOutcome.{goes_through, typed_parts}
-use Rattle.sl_stages.proofs.meaning.TypedMeaning.{typed_stages}
+use Rattle.sl_law_meaning.specs.book.Books.{book_of}
+use Rattle.sl_law_meaning.specs.book.Trees.{BookTree, StageTree, stage_of}
+use Rattle.sl_law_meaning.specs.book.Typing.{Column as TypedColumn, columns_of, expr_tests, is_typed, splits_in, stage_column, stages_tests, tests_of}
+use Rattle.sl_law_meaning.specs.declared.book.Book.{Book}
+use Rattle.sl_law_meaning.specs.declared.book.Stage.{Stage}
+use Rattle.sl_law_meaning.specs.laws.ColumnLaws.{FitsType, IsTypedAs}
+use Rattle.sl_law_meaning.specs.meaning.Columns.{NamedColumn}
+use Rattle.sl_law_meaning.specs.meaning.Means.{Known, StagesMean, Through, nothing_known, with_stage}
+use Rattle.sl_law_meaning.specs.returns.Election.{Election, IsElection}
+use Rattle.sl_law_meaning.proofs.meaning.OneOutcome.{goes_through, typed_parts}
+use Rattle.sl_law_meaning.proofs.meaning.TypedMeaning.{typed_stages}
 use Rattle.sl_base_terms.proofs.Tests.{head_holds, no_fault, pass_parts}
 use Rattle.sl_base_terms.specs.Tests.{first_failing}
 

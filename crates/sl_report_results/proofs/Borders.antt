@@ -6,15 +6,15 @@ use Rattle.std.specs.Ordering.{is_eq, nat_cmp}
 use Rattle.std.proofs.lemmas.Bool.{false≢true}
 use Rattle.std.proofs.lemmas.Bool.Decides.{nat_tests}
 use Rattle.std.proofs.lemmas.Option.{get_or_from_slice_get, slice_get_within}
-use Rattle.sl_ratio.specs.Bounds.{HasWeight, IsLast, IsNext, last_quotient, next_quotient}
-use Rattle.sl_ratio.specs.Quotient.{AtMost, Quotient, SameQuotient, compare}
-use Rattle.sl_ratio.specs.declared.method.Divisor.TheVariants.{Hill}
-use Rattle.sl_ratio.specs.declared.method.Divisor.{Divisor}
-use Rattle.sl_ratio.specs.inner.QuotientLaws.{quotient_positive}
-use Rattle.sl_ratio.proofs.Order.{AtMost-trans}
+use Rattle.sl_base_quotients.specs.Bounds.{HasWeight, IsLast, IsNext, last_quotient, next_quotient}
+use Rattle.sl_base_quotients.specs.Quotient.{AtMost, Quotient, SameQuotient, compare}
+use Rattle.sl_base_quotients.specs.declared.method.Divisor.TheVariants.{Hill}
+use Rattle.sl_base_quotients.specs.declared.method.Divisor.{Divisor}
+use Rattle.sl_base_quotients.specs.inner.QuotientLaws.{quotient_positive}
+use Rattle.sl_base_quotients.proofs.Order.{AtMost-trans}
 use Rattle.sl_report_results.specs.Lots.{IsDrawn, IsOnBorder, TellsLot}
 use Rattle.sl_report_results.specs.inner.Common.{IsClaim, IsCommon}
-use Rattle.sl_stages.specs.methods.Ties.{Lists}
+use Rattle.sl_law_meaning.specs.methods.Ties.{Lists}
 
 are_equal : (a b : ℕ) → is_eq (nat_cmp a b) ≡ true → a ≡ b
 are_equal a b h = grind (arith, nat_tests)

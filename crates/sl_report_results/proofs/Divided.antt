@@ -2,13 +2,13 @@
 use Rattle.std.proofs.Common.{◌≡◌, ℕ, ◌≤◌, List, Option, Some, None, arith, subst}
 use Rattle.std.specs.Global.{Box}
 use Rattle.std.proofs.lemmas.Option.{same_Some}
-use Rattle.sl_ratio.specs.declared.method.Method.{Method}
+use Rattle.sl_base_quotients.specs.declared.method.Method.{Method}
 use Rattle.sl_report_results.specs.Values.{HasNoSplit, IsWellFormed}
-use Rattle.sl_stages.specs.book.Trees.{tree_of}
-use Rattle.sl_stages.specs.book.Typing.{Column as TypedColumn, expr_tests, splits_in}
-use Rattle.sl_stages.specs.declared.book.Expr.{Expr, Grow, Split}
-use Rattle.sl_stages.specs.declared.book.Majority.{Majority}
-use Rattle.sl_stages.specs.declared.book.Number.{Number}
+use Rattle.sl_law_meaning.specs.book.Trees.{tree_of}
+use Rattle.sl_law_meaning.specs.book.Typing.{Column as TypedColumn, expr_tests, splits_in}
+use Rattle.sl_law_meaning.specs.declared.book.Expr.{Expr, Grow, Split}
+use Rattle.sl_law_meaning.specs.declared.book.Majority.{Majority}
+use Rattle.sl_law_meaning.specs.declared.book.Number.{Number}
 use Rattle.sl_base_terms.proofs.Tests.{pass_parts}
 
 module _ (types : List TypedColumn) where

@@ -8,10 +8,10 @@ use Rattle.std.proofs.lemmas.Bool.{cases_Bool}
 use Rattle.std.proofs.lemmas.List.{append-nil}
 use Rattle.std.proofs.lemmas.List.Elements.{filter-append, filter_map-append}
 use Rattle.sl_base_terms.specs.declared.shape.Shape.{Shape}
-use Rattle.sl_stages.specs.declared.fault.Item.{Item}
-use Rattle.sl_stages.specs.declared.returns.Lot.{Lot}
-use Rattle.sl_stages.specs.meaning.Lots.{first_mentions, given_entry}
-use Rattle.sl_stages.specs.meaning.Scopes.{same_item}
+use Rattle.sl_law_meaning.specs.declared.fault.Item.{Item}
+use Rattle.sl_law_meaning.specs.declared.election.Lot.{Lot}
+use Rattle.sl_law_meaning.specs.meaning.Lots.{first_mentions, given_entry}
+use Rattle.sl_law_meaning.specs.meaning.Scopes.{same_item}
 use Rattle.sl_report_parties.proofs.Steps.{filter_next}
 use Rattle.sl_report_results.specs.inner.Drawn.{drawn_by, with_first}
 

@@ -1,7 +1,7 @@
 -- Entries whose numbers are within the limits.
 use Rattle.std.proofs.Common.{◌≡◌, ℕ, zero, suc, ◌≤◌, List, [], ◌∷◌, map, arith, sym, subst}
 use Rattle.std.specs.List.{All}
-use Rattle.sl_ratio.specs.declared.limits.TheConstants.{MAX_SEATS, MAX_WEIGHT}
+use Rattle.sl_base_quotients.specs.declared.limits.TheConstants.{MAX_SEATS, MAX_WEIGHT}
 use Rattle.sl_report_results.specs.Scopes.{IsFew, held_of, weights_of}
 use Rattle.sl_report_results.specs.declared.scopes.Entry.{Entry}
 

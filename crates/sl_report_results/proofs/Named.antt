@@ -6,9 +6,9 @@ use Rattle.std.specs.Str.{bytes_eq}
 use Rattle.std.proofs.lemmas.List.Folds.{find_at}
 use Rattle.std.proofs.lemmas.List.Sums.{position_or_len_is}
 use Rattle.std.proofs.lemmas.Option.{slice_get-map, slice_get-get_or, get_or_from_slice_get, slice_get_cases, slice_get_within}
-use Rattle.sl_stages.specs.declared.book.Stage.{Stage}
-use Rattle.sl_stages.specs.meaning.Columns.{NamedColumn, is_column_of}
-use Rattle.sl_stages.specs.declared.count.Column.{Column}
+use Rattle.sl_law_meaning.specs.declared.book.Stage.{Stage}
+use Rattle.sl_law_meaning.specs.meaning.Columns.{NamedColumn, is_column_of}
+use Rattle.sl_law_meaning.specs.declared.count.Column.{Column}
 use Rattle.sl_report_results.specs.Values.{named_columns}
 use Rattle.sl_report_parties.proofs.Steps.{zip_at}
 

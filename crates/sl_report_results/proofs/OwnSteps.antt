@@ -4,14 +4,14 @@ use Rattle.std.specs.Prelude.{nat_eq}
 use Rattle.std.proofs.lemmas.Bool.{cases_Bool, false≢true}
 use Rattle.std.proofs.lemmas.List.Sums.{sum_by-cons}
 use Rattle.sl_base_terms.specs.declared.shape.Shape.{Shape}
-use Rattle.sl_stages.specs.declared.fault.Item.{Item}
-use Rattle.sl_stages.specs.declared.fault.Item.TheVariants as item
-use Rattle.sl_stages.specs.declared.fault.Scope.{Scope}
-use Rattle.sl_stages.specs.declared.fault.Scope.TheVariants as scope
-use Rattle.sl_stages.specs.declared.table.SeatStep.{SeatStep}
-use Rattle.sl_stages.specs.meaning.Scopes.{same_item}
-use Rattle.sl_stages.specs.returns.Election.{Election, has_list}
-use Rattle.sl_stages.specs.returns.Facts.{lands, parties}
+use Rattle.sl_law_meaning.specs.declared.fault.Item.{Item}
+use Rattle.sl_law_meaning.specs.declared.fault.Item.TheVariants as item
+use Rattle.sl_law_meaning.specs.declared.fault.Scope.{Scope}
+use Rattle.sl_law_meaning.specs.declared.fault.Scope.TheVariants as scope
+use Rattle.sl_law_meaning.specs.declared.table.SeatStep.{SeatStep}
+use Rattle.sl_law_meaning.specs.meaning.Scopes.{same_item}
+use Rattle.sl_law_meaning.specs.returns.Election.{Election, has_list}
+use Rattle.sl_law_meaning.specs.returns.Facts.{lands, parties}
 use Rattle.sl_report_results.specs.Places.{is_seat_of, items_in, seats_of}
 use Rattle.sl_report_results.specs.Scopes.{entry_of, is_shown, shown_entries}
 use Rattle.sl_report_results.specs.declared.columns.Distribution.{Distribution}

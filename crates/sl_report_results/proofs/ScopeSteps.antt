@@ -11,11 +11,11 @@ use Rattle.sl_report_results.specs.Places.{IsScope, items_in, scope_at, scope_co
 use Rattle.sl_report_results.specs.Scopes.{Adds, IsScopeOf, has_entry, scope_entries}
 use Rattle.sl_report_results.specs.declared.columns.Distribution.{Distribution}
 use Rattle.sl_report_results.specs.declared.scopes.Scoped.{Scoped}
-use Rattle.sl_stages.specs.declared.fault.Scope.TheVariants as scope
-use Rattle.sl_stages.specs.declared.table.SeatStep.{SeatStep}
-use Rattle.sl_stages.specs.meaning.Scopes.{Group, lists_in_land, lists_of_party, scopes}
-use Rattle.sl_stages.specs.returns.Election.{Election, lands_of, parties_of}
-use Rattle.sl_stages.proofs.meaning.Members.{all_and_one}
+use Rattle.sl_law_meaning.specs.declared.fault.Scope.TheVariants as scope
+use Rattle.sl_law_meaning.specs.declared.table.SeatStep.{SeatStep}
+use Rattle.sl_law_meaning.specs.meaning.Scopes.{Group, lists_in_land, lists_of_party, scopes}
+use Rattle.sl_law_meaning.specs.returns.Election.{Election, lands_of, parties_of}
+use Rattle.sl_law_meaning.proofs.meaning.Members.{all_and_one}
 use Rattle.sl_base_terms.specs.declared.shape.Shape.{Shape}
 use Rattle.sl_base_terms.specs.declared.shape.Shape.TheVariants as shape
 

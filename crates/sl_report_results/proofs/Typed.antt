@@ -3,22 +3,22 @@ use Rattle.std.proofs.Common.{Result, Ok, Err, IfOk, ◌≡◌, ℕ, zero, suc, 
 use Rattle.std.specs.Prelude.{find}
 use Rattle.std.specs.List.{AllZip, list_any, All}
 use Rattle.std.specs.Str.{bytes_eq}
-use Rattle.sl_stages.specs.declared.count.Column.{Column}
+use Rattle.sl_law_meaning.specs.declared.count.Column.{Column}
 use Rattle.sl_report_parties.specs.Sums.{capped}
 use Rattle.sl_report_results.specs.Values.{IsValue, IsColumnOf, IsWellFormed, named_columns}
-use Rattle.sl_stages.specs.book.Trees.{BookTree, ExprTree}
-use Rattle.sl_stages.specs.book.Typing.{Column as TypedColumn, is_named, is_typed, type_of, type_or_one}
-use Rattle.sl_stages.specs.declared.book.ColumnType.{ColumnType}
-use Rattle.sl_stages.specs.declared.book.Stage.{Stage}
-use Rattle.sl_stages.specs.laws.ColumnLaws.{FitsType, IsTypedAs, lists_in, most_of, most_of_list}
-use Rattle.sl_stages.specs.meaning.Columns.{NamedColumn}
-use Rattle.sl_stages.specs.meaning.Records.{no_records}
-use Rattle.sl_stages.specs.returns.Election.{Election, IsElection}
-use Rattle.sl_stages.proofs.meaning.TypedMeaning.{typed_expressions}
+use Rattle.sl_law_meaning.specs.book.Trees.{BookTree, ExprTree}
+use Rattle.sl_law_meaning.specs.book.Typing.{Column as TypedColumn, is_named, is_typed, type_of, type_or_one}
+use Rattle.sl_law_meaning.specs.declared.book.ColumnType.{ColumnType}
+use Rattle.sl_law_meaning.specs.declared.book.Stage.{Stage}
+use Rattle.sl_law_meaning.specs.laws.ColumnLaws.{FitsType, IsTypedAs, lists_in, most_of, most_of_list}
+use Rattle.sl_law_meaning.specs.meaning.Columns.{NamedColumn}
+use Rattle.sl_law_meaning.specs.meaning.Records.{no_records}
+use Rattle.sl_law_meaning.specs.returns.Election.{Election, IsElection}
+use Rattle.sl_law_meaning.proofs.meaning.TypedMeaning.{typed_expressions}
 use Rattle.sl_base_terms.specs.declared.shape.Shape.TheVariants as shape
 use Rattle.sl_base_terms.specs.declared.shape.Shape.{Shape}
-use Rattle.sl_stages.specs.declared.book.Unit.{Unit as Units}
-use Rattle.sl_stages.specs.declared.book.Unit.TheVariants as unit
+use Rattle.sl_law_meaning.specs.declared.book.Unit.{Unit as Units}
+use Rattle.sl_law_meaning.specs.declared.book.Unit.TheVariants as unit
 
 -- ---- names
 

@@ -1,12 +1,12 @@
 -- What sums and pairs come to.
 use Rattle.std.proofs.Common.{◌≡◌, ℕ, List, refl, sym, subst}
-use Rattle.sl_stages.specs.declared.book.Axis.{Axis}
-use Rattle.sl_stages.specs.declared.book.Pairing.{Pairing}
-use Rattle.sl_stages.specs.book.Trees.{ExprTree, sum, pair, BookTree}
-use Rattle.sl_stages.specs.returns.Election.{Election}
-use Rattle.sl_stages.specs.meaning.Columns.{NamedColumn, sum_over, pair_of}
-use Rattle.sl_stages.specs.meaning.Results.{plain}
-use Rattle.sl_stages.specs.meaning.Expressions.{ExprMeans}
+use Rattle.sl_law_meaning.specs.declared.book.Axis.{Axis}
+use Rattle.sl_law_meaning.specs.declared.book.Pairing.{Pairing}
+use Rattle.sl_law_meaning.specs.book.Trees.{ExprTree, sum, pair, BookTree}
+use Rattle.sl_law_meaning.specs.returns.Election.{Election}
+use Rattle.sl_law_meaning.specs.meaning.Columns.{NamedColumn, sum_over, pair_of}
+use Rattle.sl_law_meaning.specs.meaning.Results.{plain}
+use Rattle.sl_law_meaning.specs.meaning.Expressions.{ExprMeans}
 use Rattle.sl_report_results.specs.Values.{IsValue}
 
 module _ (b : BookTree) (e : Election) (columns : List NamedColumn) where

@@ -2,7 +2,7 @@
 use Rattle.std.specs.Prelude.{ℕ, ◌+◌, ◌*◌, Bool, ◌&&◌, nat_le, nat_lt}
 use Rattle.sl_law_margins.specs.declared.decimal.TheConstants.{MAX_PLACES}
 use Rattle.sl_report_results.specs.declared.fraction.Fraction.{Fraction}
-use Rattle.sl_ratio.specs.declared.ratio.TheConstants.{MAX_NUMERATOR}
+use Rattle.sl_base_quotients.specs.declared.ratio.TheConstants.{MAX_NUMERATOR}
 
 -- a fraction has a denominator, and is in the range of quotients
 abbrev pub has_decimals : (num den places : ℕ) → Bool

@@ -1,12 +1,12 @@
 -- What is told of a lot in an allocation without minima, and of the lot that the returns give for a stage (docs/report.md). A scope is given by the
 -- weights v and the seats s of its entries, in entry order.
 use Rattle.std.specs.Prelude.{◌≡◌, ◌≢◌, ◌↔◌, ℕ, ◌<◌, Bool, true, false, IsTrue, List, Option, Some, None, Contains, MatchOption, length, nat_eq, option_and_then, option_map, position, slice_index, slice_index_or, unwrap_or, ◌+◌}
-use Rattle.sl_ratio.specs.Bounds.{HasWeight, IsLast, IsNext, last_quotient, next_quotient}
-use Rattle.sl_ratio.specs.Quotient.{AtMost, Quotient, SameQuotient}
-use Rattle.sl_ratio.specs.declared.method.Divisor.TheVariants.{Hill}
-use Rattle.sl_ratio.specs.declared.method.Divisor.{Divisor}
-use Rattle.sl_stages.specs.declared.fault.Item.{Item}
-use Rattle.sl_stages.specs.meaning.Scopes.{same_item}
+use Rattle.sl_base_quotients.specs.Bounds.{HasWeight, IsLast, IsNext, last_quotient, next_quotient}
+use Rattle.sl_base_quotients.specs.Quotient.{AtMost, Quotient, SameQuotient}
+use Rattle.sl_base_quotients.specs.declared.method.Divisor.TheVariants.{Hill}
+use Rattle.sl_base_quotients.specs.declared.method.Divisor.{Divisor}
+use Rattle.sl_law_meaning.specs.declared.fault.Item.{Item}
+use Rattle.sl_law_meaning.specs.meaning.Scopes.{same_item}
 
 -- a lot decided: the last seat was won by a quotient that a next claim equals
 pub record IsDrawn (method : Divisor) (v s : List ℕ) : Type 0 where

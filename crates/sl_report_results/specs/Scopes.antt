@@ -4,12 +4,12 @@ use Rattle.std.specs.List.{AllZip, zip}
 use Rattle.sl_law_margins.specs.Divisors.{IsShortDivisor}
 use Rattle.sl_law_margins.specs.MissingVotes.{AreMissing, IsAllocation}
 use Rattle.sl_law_margins.specs.declared.decimal.Decimal.{Decimal}
-use Rattle.sl_ratio.specs.Bounds.{IsLast, IsNext}
-use Rattle.sl_ratio.specs.declared.limits.TheConstants.{MAX_SEATS, MAX_WEIGHT}
-use Rattle.sl_ratio.specs.declared.method.Divisor.{Divisor}
-use Rattle.sl_ratio.specs.declared.method.Method.TheVariants as by
-use Rattle.sl_ratio.specs.declared.method.Method.{Method}
-use Rattle.sl_ratio.specs.Quotient.{Quotient}
+use Rattle.sl_base_quotients.specs.Bounds.{IsLast, IsNext}
+use Rattle.sl_base_quotients.specs.declared.limits.TheConstants.{MAX_SEATS, MAX_WEIGHT}
+use Rattle.sl_base_quotients.specs.declared.method.Divisor.{Divisor}
+use Rattle.sl_base_quotients.specs.declared.method.Method.TheVariants as by
+use Rattle.sl_base_quotients.specs.declared.method.Method.{Method}
+use Rattle.sl_base_quotients.specs.Quotient.{Quotient}
 use Rattle.sl_report_results.specs.Lots.{AreLots, lot_place}
 use Rattle.sl_report_results.specs.Places.{seats_of}
 use Rattle.sl_report_parties.specs.Sums.{capped}
@@ -17,13 +17,13 @@ use Rattle.sl_report_results.specs.declared.columns.Distribution.{Distribution}
 use Rattle.sl_report_results.specs.declared.fraction.Fraction.{Fraction}
 use Rattle.sl_report_results.specs.declared.scopes.Entry.{Entry}
 use Rattle.sl_report_results.specs.declared.scopes.Scoped.{Scoped}
-use Rattle.sl_stages.specs.declared.fault.Item.{Item}
-use Rattle.sl_stages.specs.declared.fault.Scope.{Scope}
-use Rattle.sl_stages.specs.declared.table.SeatStep.{SeatStep}
-use Rattle.sl_stages.specs.meaning.Lots.{stage_lot}
-use Rattle.sl_stages.specs.meaning.Scopes.{Group, place, scopes}
-use Rattle.sl_stages.specs.methods.Ties.{Lists}
-use Rattle.sl_stages.specs.returns.Election.{Election}
+use Rattle.sl_law_meaning.specs.declared.fault.Item.{Item}
+use Rattle.sl_law_meaning.specs.declared.fault.Scope.{Scope}
+use Rattle.sl_law_meaning.specs.declared.table.SeatStep.{SeatStep}
+use Rattle.sl_law_meaning.specs.meaning.Lots.{stage_lot}
+use Rattle.sl_law_meaning.specs.meaning.Scopes.{Group, place, scopes}
+use Rattle.sl_law_meaning.specs.methods.Ties.{Lists}
+use Rattle.sl_law_meaning.specs.returns.Election.{Election}
 
 -- ---- entries
 

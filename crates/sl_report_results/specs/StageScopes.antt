@@ -1,14 +1,14 @@
 -- The scopes of a stage of a count.
 use Rattle.std.specs.Prelude.{◌≡◌, ◌⊎◌, ℕ, List, [], option_map, slice_get, take, unwrap_or}
-use Rattle.sl_stages.specs.declared.count.Column.{Column}
+use Rattle.sl_law_meaning.specs.declared.count.Column.{Column}
 use Rattle.sl_report_results.specs.Scopes.{AreScopes}
 use Rattle.sl_report_results.specs.Values.{HasNoSplit, IsDistributed, named_columns, types_before}
 use Rattle.sl_report_results.specs.declared.columns.Distribution.{Distribution}
 use Rattle.sl_report_results.specs.declared.scopes.Scoped.{Scoped}
-use Rattle.sl_stages.specs.book.Trees.{BookTree, ExprTree}
-use Rattle.sl_stages.specs.declared.book.Stage.{Stage}
-use Rattle.sl_stages.specs.declared.table.SeatStep.{SeatStep}
-use Rattle.sl_stages.specs.returns.Election.{Election}
+use Rattle.sl_law_meaning.specs.book.Trees.{BookTree, ExprTree}
+use Rattle.sl_law_meaning.specs.declared.book.Stage.{Stage}
+use Rattle.sl_law_meaning.specs.declared.table.SeatStep.{SeatStep}
+use Rattle.sl_law_meaning.specs.returns.Election.{Election}
 
 -- the name of the stage of that number
 abbrev pub name_of : List Stage → ℕ → List ℕ

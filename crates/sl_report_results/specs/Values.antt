@@ -1,17 +1,17 @@
 -- The columns of the stages before, and what an expression without split and growth comes to by them.
 use Rattle.std.specs.Prelude.{◌≡◌, ℕ, ◌⊎◌, Bool, true, false, List, [], Some, None, map, take, length}
 use Rattle.std.specs.List.{zip, AllZip}
-use Rattle.sl_stages.specs.declared.count.Column.{Column}
-use Rattle.sl_ratio.specs.declared.method.Method.{Method}
+use Rattle.sl_law_meaning.specs.declared.count.Column.{Column}
+use Rattle.sl_base_quotients.specs.declared.method.Method.{Method}
 use Rattle.sl_report_results.specs.declared.columns.Distribution.{Distribution}
-use Rattle.sl_stages.specs.book.Trees.{BookTree, ExprTree, atleast, fact, grow, name, pair, split, sum, without}
-use Rattle.sl_stages.specs.book.Typing.{Column as TypedColumn, columns_of, expr_tests, splits_in, type_of}
-use Rattle.sl_stages.specs.declared.book.Stage.{Stage}
-use Rattle.sl_stages.specs.laws.ColumnLaws.{FitsType, IsTypedAs}
-use Rattle.sl_stages.specs.meaning.Columns.{NamedColumn}
-use Rattle.sl_stages.specs.meaning.Expressions.{Context, ExprMeans}
-use Rattle.sl_stages.specs.meaning.Results.{plain}
-use Rattle.sl_stages.specs.returns.Election.{Election}
+use Rattle.sl_law_meaning.specs.book.Trees.{BookTree, ExprTree, atleast, fact, grow, name, pair, split, sum, without}
+use Rattle.sl_law_meaning.specs.book.Typing.{Column as TypedColumn, columns_of, expr_tests, splits_in, type_of}
+use Rattle.sl_law_meaning.specs.declared.book.Stage.{Stage}
+use Rattle.sl_law_meaning.specs.laws.ColumnLaws.{FitsType, IsTypedAs}
+use Rattle.sl_law_meaning.specs.meaning.Columns.{NamedColumn}
+use Rattle.sl_law_meaning.specs.meaning.Expressions.{Context, ExprMeans}
+use Rattle.sl_law_meaning.specs.meaning.Results.{plain}
+use Rattle.sl_law_meaning.specs.returns.Election.{Election}
 use Rattle.sl_base_terms.specs.Tests.{first_failing}
 
 -- the columns, under the names of their stages

@@ -3,18 +3,18 @@
 ghost use Rattle.std.specs.Prelude.{◌≡◌, ◌+◌, ◌*◌, ◌<◌, ◌≤◌, ◌∷◌, [], ℕ, true, false, Some, IfOk, IfSome, MatchOption, slice_index, length, get_or, find, option_map, sum, sum_by, map};
 ghost use Rattle.std.specs.List.{list_any};
 ghost use Rattle.std.specs.Str.{bytes_eq};
-ghost use Rattle.sl_stages.specs.declared.book.Stage.{Stage};
-ghost use Rattle.sl_stages.specs.book.Books.{book_of};
-ghost use Rattle.sl_stages.specs.book.Trees.{ExprTree, tree_of};
-ghost use Rattle.sl_stages.specs.declared.book.Axis.TheVariants as axis;
-ghost use Rattle.sl_stages.specs.book.Typing.{is_named, shape_over, splits_in, type_or_one};
-ghost use Rattle.sl_stages.specs.returns.Election.{lands_of, parties_of};
-ghost use Rattle.sl_stages.specs.returns.Facts.{lands, parties, list_cell};
-ghost use Rattle.sl_stages.specs.meaning.Columns.{is_column_of, sum_over, paired, pair_of};
+ghost use Rattle.sl_law_meaning.specs.declared.book.Stage.{Stage};
+ghost use Rattle.sl_law_meaning.specs.book.Books.{book_of};
+ghost use Rattle.sl_law_meaning.specs.book.Trees.{ExprTree, tree_of};
+ghost use Rattle.sl_law_meaning.specs.declared.book.Axis.TheVariants as axis;
+ghost use Rattle.sl_law_meaning.specs.book.Typing.{is_named, shape_over, splits_in, type_or_one};
+ghost use Rattle.sl_law_meaning.specs.returns.Election.{lands_of, parties_of};
+ghost use Rattle.sl_law_meaning.specs.returns.Facts.{lands, parties, list_cell};
+ghost use Rattle.sl_law_meaning.specs.meaning.Columns.{is_column_of, sum_over, paired, pair_of};
 ghost use Rattle.sl_report_parties.specs.Sums.{capped};
 ghost use Rattle.sl_report_results.specs.Values.{named_columns, types_before, HaveTypes, HasNoSplit, IsWellFormed, IsColumnOf, IsPlain, IsWith, IsDistributed};
 
-use sl_ratio::{Method, NoMemory};
+use sl_base_quotients::{Method, NoMemory};
 use sl_report_parties::Setting;
 use sl_stages::{Axis, Column, Expr, Pairing, Returns, Stage, Word};
 use std::alloc::Global;

@@ -2,15 +2,15 @@
 
 ghost use Rattle.std.specs.Prelude.{◌≡◌, ◌<◌, ◌&&◌, not, IfOk, OnOk, get_or, length, is_some, sum_by};
 ghost use Rattle.sl_report_parties.specs.Sums.{capped};
-ghost use Rattle.sl_stages.specs.meaning.Counts.{HoldsStages};
-ghost use Rattle.sl_ratio.specs.declared.method.Method.TheVariants as by;
+ghost use Rattle.sl_law_meaning.specs.meaning.Counts.{HoldsStages};
+ghost use Rattle.sl_base_quotients.specs.declared.method.Method.TheVariants as by;
 ghost use Rattle.sl_report_results.specs.Lots.{AreLots};
 ghost use Rattle.sl_report_results.specs.Places.{IsScope, items_in};
 ghost use Rattle.sl_report_results.specs.Scopes.{Adds, AreMargins, AreScopes, HasMargins, HasNone, HasQuota, IsAllocated, IsHead, IsScoped, held_of, scope_entries, weights_of};
 ghost use Rattle.sl_report_results.specs.StageScopes.{AreStageScopes, name_of};
-ghost use Rattle.sl_stages.specs.book.Books.{book_of};
-ghost use Rattle.sl_stages.specs.book.Trees.{tree_of};
-ghost use Rattle.sl_stages.specs.declared.book.Stage.{Stage};
+ghost use Rattle.sl_law_meaning.specs.book.Books.{book_of};
+ghost use Rattle.sl_law_meaning.specs.book.Trees.{tree_of};
+ghost use Rattle.sl_law_meaning.specs.declared.book.Stage.{Stage};
 
 use crate::columns::{Distribution, distribution_of};
 use crate::drawing::stage_lot;
@@ -18,7 +18,7 @@ use crate::fraction::Fraction;
 use crate::margins::{Margins, margins_of};
 use crate::places::{items_in, scope_at, scope_count, steps_in};
 use crate::scopes::{Entry, Scoped, seats_in, shown_entries, weight_in, with_margins, with_quota};
-use sl_ratio::{Divisor, Method, NoMemory};
+use sl_base_quotients::{Divisor, Method, NoMemory};
 use sl_report_parties::Setting;
 use sl_stages::{Counted, Scope, SeatStep, Stage};
 use std::alloc::Global;

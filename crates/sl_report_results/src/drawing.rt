@@ -3,11 +3,11 @@
 ghost use Rattle.std.specs.Prelude.{◌≡◌, ◌<◌, IfOk, IfSome, OnOk, length, nat_eq, position};
 ghost use Rattle.sl_report_results.specs.Lots.{lot_place};
 ghost use Rattle.sl_report_results.specs.inner.Drawn.{drawn_by, with_first};
-ghost use Rattle.sl_stages.specs.meaning.Lots.{given_entry, stage_lot};
-ghost use Rattle.sl_stages.specs.meaning.Scopes.{same_item};
+ghost use Rattle.sl_law_meaning.specs.meaning.Lots.{given_entry, stage_lot};
+ghost use Rattle.sl_law_meaning.specs.meaning.Scopes.{same_item};
 
 use crate::places::same_item;
-use sl_ratio::NoMemory;
+use sl_base_quotients::NoMemory;
 use sl_stages::{Item, Lot, Returns, Shape};
 use std::alloc::Global;
 

@@ -4,8 +4,8 @@ ghost use Rattle.std.specs.Prelude.{◌≡◌, ◌*◌, ◌^◌, IfSome, is_some
 ghost use Rattle.sl_law_margins.specs.Decimals.{IsCut};
 ghost use Rattle.sl_report_results.specs.Fractions.{has_decimals, percent_half_up};
 
+use sl_base_quotients::{MAX_NUMERATOR, NoMemory, Ratio};
 use sl_law_margins::{Decimal, MAX_PLACES, cut};
-use sl_ratio::{MAX_NUMERATOR, NoMemory, Ratio};
 use std::alloc::Global;
 
 /// A fraction, kept as it came and not reduced.

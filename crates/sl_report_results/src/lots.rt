@@ -1,12 +1,12 @@
 //! Whether a lot decided in an allocation, what it gave, and the divisor of its equal claims.
 
 ghost use Rattle.std.specs.Prelude.{◌≡◌, ◌<◌, ◌≤◌, ℕ, None, All, IfOk, MatchOption, length, slice_index_or, unwrap_or};
-ghost use Rattle.sl_ratio.specs.Bounds.{IsLast, IsNext, last_quotient, next_quotient};
+ghost use Rattle.sl_base_quotients.specs.Bounds.{IsLast, IsNext, last_quotient, next_quotient};
 ghost use Rattle.sl_report_results.specs.Lots.{AreLots, IsBorder, IsDrawn, IsMark, TellsLot};
 ghost use Rattle.sl_report_results.specs.inner.Common.{IsClaim, IsCommon};
-ghost use Rattle.sl_stages.specs.methods.Ties.{Lists};
+ghost use Rattle.sl_law_meaning.specs.methods.Ties.{Lists};
 
-use sl_ratio::{Divisor, MAX_SEATS, MAX_WEIGHT, NoMemory, Ratio};
+use sl_base_quotients::{Divisor, MAX_SEATS, MAX_WEIGHT, NoMemory, Ratio};
 use std::alloc::Global;
 
 /// What is told of a lot: whether one decided, where that is known; the divisor on the border of equal claims; and for each entry whether the lot

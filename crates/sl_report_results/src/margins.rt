@@ -8,8 +8,8 @@ ghost use Rattle.sl_report_results.specs.Scopes.{AreLacking, AreMargins, IsAlloc
 
 use crate::lots::lots_of;
 use crate::scopes::Entry;
+use sl_base_quotients::{Divisor, MAX_SEATS, MAX_WEIGHT, NoMemory, Ratio};
 use sl_law_margins::{Decimal, divisor, is_allocation, last_seats, next_claims, votes_missing};
-use sl_ratio::{Divisor, MAX_SEATS, MAX_WEIGHT, NoMemory, Ratio};
 use std::alloc::Global;
 
 /// The margins of an allocation by a divisor method without minima: a divisor, if a decimal number lies between the claims; the entries that won

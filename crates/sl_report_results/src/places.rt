@@ -3,13 +3,13 @@
 ghost use Rattle.std.specs.Prelude.{◌≡◌, ◌<◌, ◌++◌, ◌∷◌, [], IfOk, OnOk, slice_index, filter, map, if◌then◌else◌};
 ghost use Rattle.sl_report_results.specs.Places.{IsScope, is_seat_of, items_in, scope_at, scope_count, seats_of};
 ghost use Rattle.sl_report_results.specs.inner.Within.{is_step_in, is_within};
-ghost use Rattle.sl_stages.specs.declared.fault.Item.TheVariants as item;
-ghost use Rattle.sl_stages.specs.meaning.Scopes.{all_lists, entries_of, lists_in_land, lists_of_party, place, same_item};
-ghost use Rattle.sl_stages.specs.returns.Election.{lands_of, parties_of};
-ghost use Rattle.sl_stages.specs.returns.Facts.{lands, parties};
+ghost use Rattle.sl_law_meaning.specs.declared.fault.Item.TheVariants as item;
+ghost use Rattle.sl_law_meaning.specs.meaning.Scopes.{all_lists, entries_of, lists_in_land, lists_of_party, place, same_item};
+ghost use Rattle.sl_law_meaning.specs.returns.Election.{lands_of, parties_of};
+ghost use Rattle.sl_law_meaning.specs.returns.Facts.{lands, parties};
 
 use crate::columns::number_at;
-use sl_ratio::NoMemory;
+use sl_base_quotients::NoMemory;
 use sl_report_parties::one_if;
 use sl_stages::{Column, Item, Returns, Scope, SeatStep, Shape};
 use std::alloc::Global;

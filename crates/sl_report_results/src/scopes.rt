@@ -2,7 +2,7 @@
 
 ghost use Rattle.std.specs.Prelude.{◌≡◌, ◌++◌, ◌∷◌, [], None, Some, IfOk, OnOk, map, filter, length, slice_get, sum_by, ◌<◌};
 ghost use Rattle.std.specs.List.{zip};
-ghost use Rattle.sl_ratio.specs.declared.method.Method.TheVariants as by;
+ghost use Rattle.sl_base_quotients.specs.declared.method.Method.TheVariants as by;
 ghost use Rattle.sl_report_results.specs.Places.{items_in};
 ghost use Rattle.sl_report_results.specs.Scopes.{entry_of, is_shown, quota_entry, shown_entries, with_margins};
 ghost use Rattle.sl_report_parties.specs.Sums.{capped};
@@ -11,8 +11,8 @@ use crate::columns::Distribution;
 use crate::drawing::lot_place;
 use crate::fraction::Fraction;
 use crate::places::{items_in, number_of, seats_of};
+use sl_base_quotients::{Method, NoMemory, Ratio};
 use sl_law_margins::Decimal;
-use sl_ratio::{Method, NoMemory, Ratio};
 use sl_stages::{Item, Returns, Scope, SeatStep};
 use std::alloc::Global;
 

@@ -6,8 +6,8 @@ use Rattle.sl_report_forms.specs.Cells.{Content}
 use Rattle.sl_report_forms.specs.Tables.{Table, blank_table, with_columns, with_rows}
 use Rattle.sl_report_tables.specs.Compare.{change_row, changes_table, compared, rows_from, seats_row, seats_table}
 use Rattle.sl_report_tables.specs.declared.compare.Judged.{Judged}
-use Rattle.sl_stages.specs.declared.count.Counted.{Counted}
-use Rattle.sl_stages.specs.returns.Election.{Election}
+use Rattle.sl_law_meaning.specs.declared.count.Counted.{Counted}
+use Rattle.sl_law_meaning.specs.returns.Election.{Election}
 
 abbrev pub blank_changes : Table
 blank_changes = blank_table (codes "changes") (codes "party" ∷ codes "party_name" ∷ [])

@@ -7,7 +7,7 @@ use Rattle.std.specs.Prelude.{slice_get}
 use Rattle.sl_report_forms.specs.Cells.{Content}
 use Rattle.sl_report_forms.specs.Tables.{Table, with_rows}
 use Rattle.sl_report_parties.proofs.Steps.{range_more}
-use Rattle.sl_stages.proofs.meaning.Members.{all_and_one}
+use Rattle.sl_law_meaning.proofs.meaning.Members.{all_and_one}
 
 module _ {X : Type 0} (P : X → List Content → Type 0) where
   -- a table with the key and the columns of a blank one, and a row for each element

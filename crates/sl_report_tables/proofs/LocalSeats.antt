@@ -12,8 +12,8 @@ use Rattle.sl_report_tables.specs.declared.compare.Judged.{Judged}
 use Rattle.sl_report_tables.specs.declared.local.Local.{Local}
 use Rattle.sl_report_tables.specs.inner.Local.{lines_in}
 use Rattle.sl_report_tables.specs.inner.Seen.{seen, with_land}
-use Rattle.sl_stages.specs.declared.count.Counted.{Counted}
-use Rattle.sl_stages.specs.declared.fault.LegalFault.{LegalFault}
+use Rattle.sl_law_meaning.specs.declared.count.Counted.{Counted}
+use Rattle.sl_law_meaning.specs.declared.fault.LegalFault.{LegalFault}
 
 -- a filter that keeps what is summed leaves the sum
 sum_kept : {X : Type 0} (f : X → ℕ) (q : X → Bool) → ((x : X) → q x ≡ false → f x ≡ 0) → (xs : List X) → sum_by f (filter q xs) ≡ sum_by f xs

@@ -6,11 +6,11 @@ use Rattle.std.proofs.lemmas.Result.{IfOk-at_ok}
 use Rattle.std.specs.List.{AllZip, flat_map, range_with_len}
 use Rattle.std.specs.Prelude.{Err, IfOk, Ok, Result, option_map, slice_get}
 use Rattle.std.specs.Result.{result_and}
-use Rattle.sl_ratio.specs.declared.no_memory.NoMemory.{NoMemory}
+use Rattle.sl_base_quotients.specs.declared.no_memory.NoMemory.{NoMemory}
 use Rattle.sl_report_forms.specs.Tables.{Table, table_of}
 use Rattle.sl_report_forms.specs.declared.sheet.Sheet.{Sheet}
 use Rattle.sl_report_parties.proofs.Steps.{map_next, range_more}
-use Rattle.sl_stages.proofs.meaning.Members.{all_and_one}
+use Rattle.sl_law_meaning.proofs.meaning.Members.{all_and_one}
 
 -- a sheet of that table more
 pub table_pushed : (before after : List Sheet) (s : Sheet) (t : Table) → after ≡ before ++ s ∷ [] → table_of s ≡ t → map table_of after ≡ map table_of before ++ t ∷ []

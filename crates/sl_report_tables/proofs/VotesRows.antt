@@ -7,9 +7,9 @@ use Rattle.sl_report_parties.specs.Sums.{lists_of}
 use Rattle.sl_report_parties.specs.declared.parts.PartyPart.{PartyPart}
 use Rattle.sl_report_tables.specs.Parts.{a_name, condition_cell, percent_cells}
 use Rattle.sl_report_tables.specs.Totals.{IsVotesRow, votes_row}
-use Rattle.sl_stages.specs.declared.book.Cond.{Cond}
-use Rattle.sl_stages.specs.returns.Election.{Election}
-use Rattle.sl_stages.specs.returns.Facts.{all_valid_votes}
+use Rattle.sl_law_meaning.specs.declared.book.Cond.{Cond}
+use Rattle.sl_law_meaning.specs.returns.Election.{Election}
+use Rattle.sl_law_meaning.specs.returns.Facts.{all_valid_votes}
 
 -- the cells of a party, by numbers that are those of the definitions
 pub votes_row_is : (conditions : List Cond) (e : Election) (party : ℕ) (has : PartyPart) (all lists : ℕ) (votes winners : Option ℕ) →

@@ -8,12 +8,12 @@ use Rattle.sl_report_parties.specs.Sums.{capped}
 use Rattle.sl_report_tables.specs.Parties.{house_of}
 use Rattle.sl_report_tables.specs.Parts.{a_name}
 use Rattle.sl_report_tables.specs.declared.compare.Judged.{Judged}
-use Rattle.sl_stages.specs.declared.book.Book.{Book}
-use Rattle.sl_stages.specs.declared.count.Counted.{Counted}
-use Rattle.sl_stages.specs.declared.fault.LegalFault.{LegalFault}
-use Rattle.sl_stages.specs.declared.table.ListSeats.{ListSeats}
-use Rattle.sl_stages.specs.returns.Election.{Election, has_list}
-use Rattle.sl_stages.specs.returns.Facts.{lands, parties}
+use Rattle.sl_law_meaning.specs.declared.book.Book.{Book}
+use Rattle.sl_law_meaning.specs.declared.count.Counted.{Counted}
+use Rattle.sl_law_meaning.specs.declared.fault.LegalFault.{LegalFault}
+use Rattle.sl_law_meaning.specs.declared.table.ListSeats.{ListSeats}
+use Rattle.sl_law_meaning.specs.returns.Election.{Election, has_list}
+use Rattle.sl_law_meaning.specs.returns.Facts.{lands, parties}
 
 -- the word for a legal fault, where there is one
 abbrev pub fault_cell : Option LegalFault → Content

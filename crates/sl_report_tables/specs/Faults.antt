@@ -2,9 +2,9 @@
 use Rattle.std.specs.Prelude.{◌≡◌, List, [], ◌∷◌, codes}
 use Rattle.sl_report_forms.specs.Cells.{Content, a_number, a_text, nothing}
 use Rattle.sl_report_forms.specs.Tables.{Table}
-use Rattle.sl_stages.specs.declared.fault.FaultKind.TheVariants as kind
-use Rattle.sl_stages.specs.declared.fault.FaultKind.{FaultKind}
-use Rattle.sl_stages.specs.declared.fault.LegalFault.{LegalFault}
+use Rattle.sl_law_meaning.specs.declared.fault.FaultKind.TheVariants as kind
+use Rattle.sl_law_meaning.specs.declared.fault.FaultKind.{FaultKind}
+use Rattle.sl_law_meaning.specs.declared.fault.LegalFault.{LegalFault}
 
 -- the seats of a tie, and the names of the tied
 abbrev pub tie_cells : FaultKind → List Content

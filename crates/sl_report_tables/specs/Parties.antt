@@ -9,18 +9,18 @@ use Rattle.sl_report_parties.specs.Seats.{all_seats, is_open, is_single, party_s
 use Rattle.sl_report_parties.specs.declared.contests.Ranked.{Ranked}
 use Rattle.sl_report_parties.specs.declared.seats.Seats.{Seats}
 use Rattle.sl_report_tables.specs.Parts.{a_name, condition_cell, percent_cells}
-use Rattle.sl_stages.specs.declared.book.Book.{Book}
-use Rattle.sl_stages.specs.declared.book.Cond.{Cond}
-use Rattle.sl_stages.specs.declared.book.Seating.TheVariants as seating
-use Rattle.sl_stages.specs.declared.book.Seating.{Seating}
-use Rattle.sl_stages.specs.declared.returns.Win.{Win}
-use Rattle.sl_stages.specs.declared.table.ListSeats.{ListSeats}
-use Rattle.sl_stages.specs.declared.table.Placed.TheVariants as placed
-use Rattle.sl_stages.specs.declared.table.Placed.{Placed}
-use Rattle.sl_stages.specs.meaning.Tables.{SeatTable}
-use Rattle.sl_stages.specs.returns.Election.{Election, lands_of, list_at, parties_of}
-use Rattle.sl_stages.specs.returns.Facts.{all_valid_votes, meets, parties}
-use Rattle.sl_stages.specs.returns.Votes.{counted_in, valid_in}
+use Rattle.sl_law_meaning.specs.declared.book.Book.{Book}
+use Rattle.sl_law_meaning.specs.declared.book.Cond.{Cond}
+use Rattle.sl_law_meaning.specs.declared.book.Seating.TheVariants as seating
+use Rattle.sl_law_meaning.specs.declared.book.Seating.{Seating}
+use Rattle.sl_law_meaning.specs.declared.election.Win.{Win}
+use Rattle.sl_law_meaning.specs.declared.table.ListSeats.{ListSeats}
+use Rattle.sl_law_meaning.specs.declared.table.Placed.TheVariants as placed
+use Rattle.sl_law_meaning.specs.declared.table.Placed.{Placed}
+use Rattle.sl_law_meaning.specs.meaning.Tables.{SeatTable}
+use Rattle.sl_law_meaning.specs.returns.Election.{Election, lands_of, list_at, parties_of}
+use Rattle.sl_law_meaning.specs.returns.Facts.{all_valid_votes, meets, parties}
+use Rattle.sl_law_meaning.specs.returns.Votes.{counted_in, valid_in}
 
 -- seats, where a table is known
 abbrev pub seat_cells : Option Seats → List Content

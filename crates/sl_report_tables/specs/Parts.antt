@@ -5,9 +5,9 @@ use Rattle.sl_report_results.specs.Fractions.{has_decimals, percent_half_up}
 use Rattle.sl_report_results.specs.declared.fraction.Fraction.{Fraction}
 use Rattle.sl_report_tables.specs.declared.rows.Part.TheVariants as part
 use Rattle.sl_report_tables.specs.declared.rows.Part.{Part}
-use Rattle.sl_stages.specs.declared.book.Cond.{Cond}
-use Rattle.sl_stages.specs.declared.fault.Item.TheVariants as item
-use Rattle.sl_stages.specs.declared.fault.Item.{Item}
+use Rattle.sl_law_meaning.specs.declared.book.Cond.{Cond}
+use Rattle.sl_law_meaning.specs.declared.fault.Item.TheVariants as item
+use Rattle.sl_law_meaning.specs.declared.fault.Item.{Item}
 
 -- a short name, and the one that a reader sees
 abbrev pub a_name : List Content

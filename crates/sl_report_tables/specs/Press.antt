@@ -12,12 +12,12 @@ use Rattle.sl_report_parties.specs.declared.press.Pressed.{Pressed}
 use Rattle.sl_report_parties.specs.declared.press.Standing.{Standing}
 use Rattle.sl_report_results.specs.declared.scopes.Scoped.{Scoped}
 use Rattle.sl_report_tables.specs.Parts.{a_name, rounded_cell}
-use Rattle.sl_stages.specs.declared.book.Cond.{Cond}
-use Rattle.sl_stages.specs.declared.fault.Scope.TheVariants as scope
-use Rattle.sl_stages.specs.declared.fault.Scope.{Scope}
-use Rattle.sl_stages.specs.meaning.Tables.{SeatTable}
-use Rattle.sl_stages.specs.returns.Election.{Election}
-use Rattle.sl_stages.specs.returns.Facts.{all_valid_votes}
+use Rattle.sl_law_meaning.specs.declared.book.Cond.{Cond}
+use Rattle.sl_law_meaning.specs.declared.fault.Scope.TheVariants as scope
+use Rattle.sl_law_meaning.specs.declared.fault.Scope.{Scope}
+use Rattle.sl_law_meaning.specs.meaning.Tables.{SeatTable}
+use Rattle.sl_law_meaning.specs.returns.Election.{Election}
+use Rattle.sl_law_meaning.specs.returns.Facts.{all_valid_votes}
 
 -- ---- the parties in the order of their seats, and all together
 

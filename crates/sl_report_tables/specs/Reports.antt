@@ -16,16 +16,16 @@ use Rattle.sl_report_tables.specs.Scopes.{scope_tables, scopes_table}
 use Rattle.sl_report_tables.specs.Stages.{stage_tables}
 use Rattle.sl_report_tables.specs.declared.counts.Show.TheVariants as show
 use Rattle.sl_report_tables.specs.declared.counts.Show.{Show}
-use Rattle.sl_stages.specs.book.Books.{book_of}
-use Rattle.sl_stages.specs.book.Trees.{tree_of}
-use Rattle.sl_stages.specs.declared.book.Book.{Book}
-use Rattle.sl_stages.specs.declared.book.Stage.{Stage}
-use Rattle.sl_stages.specs.declared.count.Counted.{Counted}
-use Rattle.sl_stages.specs.declared.count.End.TheVariants as end
-use Rattle.sl_stages.specs.declared.count.End.{End}
-use Rattle.sl_stages.specs.declared.fault.LegalFault.{LegalFault}
-use Rattle.sl_stages.specs.meaning.Tables.{SeatTable}
-use Rattle.sl_stages.specs.returns.Election.{Election}
+use Rattle.sl_law_meaning.specs.book.Books.{book_of}
+use Rattle.sl_law_meaning.specs.book.Trees.{tree_of}
+use Rattle.sl_law_meaning.specs.declared.book.Book.{Book}
+use Rattle.sl_law_meaning.specs.declared.book.Stage.{Stage}
+use Rattle.sl_law_meaning.specs.declared.count.Counted.{Counted}
+use Rattle.sl_law_meaning.specs.declared.count.End.TheVariants as end
+use Rattle.sl_law_meaning.specs.declared.count.End.{End}
+use Rattle.sl_law_meaning.specs.declared.fault.LegalFault.{LegalFault}
+use Rattle.sl_law_meaning.specs.meaning.Tables.{SeatTable}
+use Rattle.sl_law_meaning.specs.returns.Election.{Election}
 
 -- contested lists, and the winners who sit by themselves or not at all
 abbrev pub winner_tables : Election → SeatTable → List Ranked → List Table

@@ -7,10 +7,10 @@ use Rattle.sl_report_forms.specs.Cells.{Content, a_number, a_text}
 use Rattle.sl_report_forms.specs.Tables.{Table}
 use Rattle.sl_report_parties.specs.Sums.{capped}
 use Rattle.sl_report_tables.specs.Parts.{a_name}
-use Rattle.sl_stages.specs.declared.count.Column.{Column}
-use Rattle.sl_stages.specs.declared.fault.Item.{Item}
-use Rattle.sl_stages.specs.meaning.Scopes.{entries_of, place}
-use Rattle.sl_stages.specs.returns.Election.{Election}
+use Rattle.sl_law_meaning.specs.declared.count.Column.{Column}
+use Rattle.sl_law_meaning.specs.declared.fault.Item.{Item}
+use Rattle.sl_law_meaning.specs.meaning.Scopes.{entries_of, place}
+use Rattle.sl_law_meaning.specs.returns.Election.{Election}
 
 -- the number of the stage from 1, its name, shape and unit, and the sum of its column
 abbrev pub stage_row : ℕ × Column → List Content

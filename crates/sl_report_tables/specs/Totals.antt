@@ -11,12 +11,12 @@ use Rattle.sl_report_parties.specs.declared.parts.PartyPart.{PartyPart}
 use Rattle.sl_report_tables.specs.Parts.{a_name, condition_cell, percent_cells}
 use Rattle.sl_report_warnings.specs.Warnings.{warnings_of}
 use Rattle.sl_report_warnings.specs.declared.warning.Warning.{Warning}
-use Rattle.sl_stages.specs.book.Books.{book_of}
-use Rattle.sl_stages.specs.declared.book.Book.{Book}
-use Rattle.sl_stages.specs.declared.book.Cond.{Cond}
-use Rattle.sl_stages.specs.returns.Election.{Election, lands_of, parties_of}
-use Rattle.sl_stages.specs.returns.Facts.{all_valid_votes, is_in, lands, parties}
-use Rattle.sl_stages.specs.returns.Votes.{counted_in, valid_in}
+use Rattle.sl_law_meaning.specs.book.Books.{book_of}
+use Rattle.sl_law_meaning.specs.declared.book.Book.{Book}
+use Rattle.sl_law_meaning.specs.declared.book.Cond.{Cond}
+use Rattle.sl_law_meaning.specs.returns.Election.{Election, lands_of, parties_of}
+use Rattle.sl_law_meaning.specs.returns.Facts.{all_valid_votes, is_in, lands, parties}
+use Rattle.sl_law_meaning.specs.returns.Votes.{counted_in, valid_in}
 
 abbrev pub totals_table : Election → Table
 totals_table e = record {

@@ -2,8 +2,8 @@
 
 ghost use Rattle.std.specs.Prelude.{◌≡◌, [], IfOk};
 
+use sl_base_quotients::NoMemory;
 use sl_count_inputs::Status;
-use sl_ratio::NoMemory;
 use sl_report_forms::{
     Heading, Sheet, aligned_text, comma_text, html_text, json_text, markdown_text,
 };

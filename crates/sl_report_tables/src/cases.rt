@@ -8,8 +8,8 @@ ghost use Rattle.sl_report_tables.specs.Names.{are_refused, are_refused_in};
 use crate::answer::Answer;
 use crate::earlier::earlier_parties;
 use crate::full_names::FullNames;
+use sl_base_quotients::NoMemory;
 use sl_count_inputs::Bytes;
-use sl_ratio::NoMemory;
 use sl_report_parties::EarlierParty;
 use std::alloc::Global;
 

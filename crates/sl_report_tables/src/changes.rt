@@ -9,7 +9,7 @@ use crate::compare::{COMPARE, Judged, fault_part, name_part, push_heads, seats_i
 use crate::naming::Naming;
 use crate::rows::{Form, Part, push_row, put_parts, titled};
 use crate::texts::{CHANGES_TITLE, ColumnHead, EACH_TITLE};
-use sl_ratio::NoMemory;
+use sl_base_quotients::NoMemory;
 use sl_report_forms::{Look, Row, Sheet};
 use sl_stages::Returns;
 use std::alloc::Global;

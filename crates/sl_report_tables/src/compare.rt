@@ -13,7 +13,7 @@ use crate::naming::{Naming, law_name, stage_name};
 use crate::rows::{Form, Part, add_sheet, push_row, put_parts, titled};
 use crate::stages::stage_number;
 use crate::texts::{ALL, COMPARED_TITLE, ColumnHead, RULEBOOKS_TITLE};
-use sl_ratio::NoMemory;
+use sl_base_quotients::NoMemory;
 use sl_report_forms::{Head, Look, Row, Sheet};
 use sl_report_parties::{house_of, open_winners, seats_in_all, seats_of};
 use sl_report_results::{Column, Counted};

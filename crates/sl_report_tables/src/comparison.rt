@@ -9,8 +9,8 @@ use crate::answer::Answer;
 use crate::compare::{Judged, compare_sheets};
 use crate::full_names::FullNames;
 use crate::naming::Naming;
+use sl_base_quotients::NoMemory;
 use sl_explain_texts::Language;
-use sl_ratio::NoMemory;
 use sl_stages::Returns;
 use std::alloc::Global;
 

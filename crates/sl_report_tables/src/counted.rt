@@ -7,8 +7,8 @@ ghost use Rattle.sl_report_parties.specs.declared.contests.Ranked.{Ranked};
 ghost use Rattle.sl_report_tables.specs.Parties.{AreCovered, house_of, law_table};
 ghost use Rattle.sl_report_tables.specs.Reports.{AddsCounted, AreAllScopes, IsCountReport, first_tables, winner_tables};
 ghost use Rattle.sl_report_tables.specs.Scopes.{scope_tables};
-ghost use Rattle.sl_stages.specs.book.Books.{book_of};
-ghost use Rattle.sl_stages.specs.meaning.Counts.{HoldsStages};
+ghost use Rattle.sl_law_meaning.specs.book.Books.{book_of};
+ghost use Rattle.sl_law_meaning.specs.meaning.Counts.{HoldsStages};
 
 use crate::covering::covering_sheet;
 use crate::naming::{Naming, law_name};
@@ -16,7 +16,7 @@ use crate::parties::{lists_sheet, open_sheet, parties_sheet, seat_parts, singles
 use crate::rows::{Form, Part, add_sheet, one_row_sheet};
 use crate::scopes::{entries_sheet, scopes_sheet};
 use crate::texts::{ColumnHead, LAW_TITLE};
-use sl_ratio::NoMemory;
+use sl_base_quotients::NoMemory;
 use sl_report_forms::{Look, Sheet};
 use sl_report_parties::{Seats, Setting, seats_in_all};
 use sl_report_results::{Counted, Scoped, stage_scopes};

@@ -4,7 +4,7 @@ ghost use Rattle.std.specs.Prelude.{◌≡◌, IfOk, map};
 ghost use Rattle.sl_report_forms.specs.Tables.{table_of};
 ghost use Rattle.sl_report_tables.specs.Reports.{IsFaultReport, Shows, beside};
 ghost use Rattle.sl_report_tables.specs.Ends.{HoldsEnd, end_status};
-ghost use Rattle.sl_stages.specs.book.Books.{book_of};
+ghost use Rattle.sl_law_meaning.specs.book.Books.{book_of};
 
 use crate::answer::Answer;
 use crate::counted::{first_sheets, report_sheets};
@@ -13,8 +13,8 @@ use crate::full_names::FullNames;
 use crate::naming::Naming;
 use crate::press::press_sheets;
 use crate::stages::stage_sheets;
+use sl_base_quotients::NoMemory;
 use sl_explain_texts::Language;
-use sl_ratio::NoMemory;
 use sl_report_forms::Sheet;
 use sl_report_parties::{EarlierParty, Setting, parts_of};
 use sl_stages::{CheckedBook, End, LegalFault, Returns};

@@ -8,7 +8,7 @@ ghost use Rattle.sl_report_tables.specs.Parties.{AreCovered, covering_table, ran
 use crate::naming::Naming;
 use crate::rows::{Form, Part, push_row, titled};
 use crate::texts::{COVERED_TITLE, ColumnHead};
-use sl_ratio::NoMemory;
+use sl_base_quotients::NoMemory;
 use sl_report_forms::{Look, Sheet};
 use sl_report_parties::{Ranked, Setting, contested};
 use sl_stages::{Seating, Table};

@@ -4,7 +4,7 @@ ghost use Rattle.std.specs.List.{list_all, position};
 ghost use Rattle.std.specs.Prelude.{◌&&◌, ◌++◌, ◌∷◌, [], ◌≡◌, IfErr, IfOk, MatchOption, OnOk, false, filter_map, is_some, length, map, nat_lt, not, option_map, true};
 ghost use Rattle.sl_report_tables.specs.Earlier.{is_line, is_other, is_table, party_told, table_parties, told_party, words};
 
-use sl_ratio::NoMemory;
+use sl_base_quotients::NoMemory;
 use sl_report_parties::EarlierParty;
 use sl_returns::spelled_number;
 use std::alloc::Global;

@@ -12,9 +12,9 @@ use crate::texts::{
     ColumnHead, EXPLANATION_TITLE, FAULT_TITLE, KIND_CAP, KIND_LIMIT, KIND_MAJORITY, KIND_NO_LIST,
     KIND_SHORT, KIND_TIE,
 };
+use sl_base_quotients::NoMemory;
 use sl_explain_faults::explain_legal;
 use sl_explain_texts::{Explanation, Message};
-use sl_ratio::NoMemory;
 use sl_report_forms::{Look, Sheet};
 use sl_stages::{Book, FaultKind, LegalFault};
 use std::alloc::Global;

@@ -7,7 +7,7 @@ ghost use Rattle.sl_report_tables.specs.Names.{is_pair, is_text, wrong_record};
 ghost use Rattle.sl_returns.specs.Returns.{records_in};
 
 use csv::ByteRecord;
-use sl_ratio::NoMemory;
+use sl_base_quotients::NoMemory;
 use sl_returns::{reader_of, stopped};
 use std::alloc::Global;
 use std::collections::HashMap;

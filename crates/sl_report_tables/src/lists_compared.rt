@@ -7,14 +7,14 @@ ghost use Rattle.sl_report_tables.specs.Compare.{gives_seats, has_seats, list_se
 ghost use Rattle.sl_report_parties.specs.Sums.{capped};
 ghost use Rattle.sl_report_tables.specs.Parts.{cells_of};
 ghost use Rattle.sl_report_tables.specs.inner.Seen.{seen, with_land};
-ghost use Rattle.sl_stages.specs.returns.Election.{lands_of, parties_of};
+ghost use Rattle.sl_law_meaning.specs.returns.Election.{lands_of, parties_of};
 
 use crate::compare::{Judged, fault_part, push_heads};
 use crate::local::{Local, lines_in};
 use crate::naming::Naming;
 use crate::rows::{Form, Part, put_parts, titled};
 use crate::texts::{ColumnHead, LIST_SEATS_TITLE};
-use sl_ratio::NoMemory;
+use sl_base_quotients::NoMemory;
 use sl_report_forms::{Look, Row, Sheet};
 use sl_stages::ListSeats;
 use std::alloc::Global;

@@ -4,7 +4,7 @@ ghost use Rattle.std.specs.Prelude.{◌≡◌, IfOk, filter, nat_eq};
 ghost use Rattle.sl_report_tables.specs.inner.Local.{lines_in};
 
 use crate::compare::Judged;
-use sl_ratio::NoMemory;
+use sl_base_quotients::NoMemory;
 use sl_stages::ListSeats;
 use std::alloc::Global;
 

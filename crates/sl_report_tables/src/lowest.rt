@@ -3,7 +3,7 @@
 ghost use Rattle.std.specs.Int.{IsGcd};
 ghost use Rattle.sl_report_tables.specs.Lowest.{IsLowest};
 
-use sl_ratio::NoMemory;
+use sl_base_quotients::NoMemory;
 use sl_report_results::Fraction;
 use std::alloc::Global;
 

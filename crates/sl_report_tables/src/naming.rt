@@ -2,8 +2,8 @@
 
 use crate::full_names::FullNames;
 use crate::texts::ALL;
+use sl_base_quotients::NoMemory;
 use sl_explain_texts::Language;
-use sl_ratio::NoMemory;
 use sl_stages::{Book, Item, Returns, Scope};
 use std::alloc::Global;
 

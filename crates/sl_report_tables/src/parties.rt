@@ -5,14 +5,14 @@ ghost use Rattle.sl_report_forms.specs.Tables.{table_of, with_rows};
 ghost use Rattle.sl_report_parties.specs.Seats.{party_seats};
 ghost use Rattle.sl_report_tables.specs.Parties.{has_place, is_shown_list, list_row, lists_table, open_table, parties_table, party_cells, party_row, placed_table, seat_cells, singles_table, winner_row};
 ghost use Rattle.sl_report_tables.specs.Parts.{cells_of};
-ghost use Rattle.sl_stages.specs.returns.Election.{parties_of};
-ghost use Rattle.sl_stages.specs.returns.Facts.{all_valid_votes};
+ghost use Rattle.sl_law_meaning.specs.returns.Election.{parties_of};
+ghost use Rattle.sl_law_meaning.specs.returns.Facts.{all_valid_votes};
 
 use crate::naming::Naming;
 use crate::rows::{Form, Part, push_row, titled};
 use crate::texts::{ColumnHead, LISTS_TITLE, NO_PARTY, OPEN_TITLE, PARTIES_TITLE, SINGLES_TITLE};
+use sl_base_quotients::NoMemory;
 use sl_explain_texts::Message;
-use sl_ratio::NoMemory;
 use sl_report_forms::{Look, Sheet};
 use sl_report_parties::{Seats, Setting, all_votes, seats_of};
 use sl_stages::{ListSeats, Placed, Returns, Table, Win};

@@ -12,16 +12,16 @@ ghost use Rattle.sl_report_tables.specs.Press.{IsLackingRow, IsLackingTable, bef
 ghost use Rattle.sl_report_tables.specs.Parts.{cells_of};
 ghost use Rattle.sl_report_tables.specs.Reports.{IsPressReport};
 ghost use Rattle.sl_report_tables.specs.Scopes.{scope_row, scopes_table};
-ghost use Rattle.sl_stages.specs.book.Books.{book_of};
-ghost use Rattle.sl_stages.specs.meaning.Counts.{HoldsStages};
-ghost use Rattle.sl_stages.specs.returns.Facts.{all_valid_votes};
+ghost use Rattle.sl_law_meaning.specs.book.Books.{book_of};
+ghost use Rattle.sl_law_meaning.specs.meaning.Counts.{HoldsStages};
+ghost use Rattle.sl_law_meaning.specs.returns.Facts.{all_valid_votes};
 
 use crate::counted::{all_scopes, law_sheet};
 use crate::naming::Naming;
 use crate::rows::{Form, Part, add_sheet, push_row, titled};
 use crate::scopes::{SCOPES, push_scope};
 use crate::texts::{ALL, ColumnHead, LAST_SEATS_TITLE, LEFT_OUT_TITLE, PRESS_TITLE};
-use sl_ratio::NoMemory;
+use sl_base_quotients::NoMemory;
 use sl_report_forms::{Look, Sheet};
 use sl_report_parties::{
     EarlierParty, Pressed, Setting, Standing, all_before, all_votes, by_seats, gone, lacking_votes,

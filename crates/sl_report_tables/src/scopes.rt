@@ -11,7 +11,7 @@ use crate::naming::{Naming, stage_name};
 use crate::rows::{Form, Part, blank, push_name, push_row, put_parts, titled};
 use crate::texts::{ColumnHead, DISTRIBUTIONS_TITLE, STAGE_TITLE};
 use crate::words::method_word;
-use sl_ratio::NoMemory;
+use sl_base_quotients::NoMemory;
 use sl_report_forms::{Look, Row, Sheet};
 use sl_report_results::{Entry, Fraction, Scoped};
 use sl_stages::{Book, Scope};

@@ -4,14 +4,14 @@ ghost use Rattle.std.specs.List.{enumerate_from};
 ghost use Rattle.std.specs.Prelude.{◌≡◌, ◌∷◌, [], IfOk, OnOk, map};
 ghost use Rattle.sl_report_forms.specs.Tables.{table_of, with_rows};
 ghost use Rattle.sl_report_tables.specs.Stages.{cell_row, cell_rows, cells_table, stage_row, stage_tables, stages_table};
-ghost use Rattle.sl_stages.specs.meaning.Scopes.{entries_of};
+ghost use Rattle.sl_law_meaning.specs.meaning.Scopes.{entries_of};
 
 use crate::naming::{Naming, stage_name};
 use crate::rows::{Form, Part, add_sheet, blank, push_row, titled};
 use crate::texts::{ALL, ColumnHead, STAGE_TITLE, STAGES_TITLE};
 use crate::words::{shape_word, unit_word};
+use sl_base_quotients::NoMemory;
 use sl_check::types_of;
-use sl_ratio::NoMemory;
 use sl_report_forms::{Look, Sheet};
 use sl_report_parties::Setting;
 use sl_report_results::{Column, Counted, entries_of, number_of, sum_of};

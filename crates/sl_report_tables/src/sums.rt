@@ -9,8 +9,8 @@ use crate::answer::Answer;
 use crate::full_names::FullNames;
 use crate::naming::Naming;
 use crate::totals::total_sheets;
+use sl_base_quotients::NoMemory;
 use sl_explain_texts::Language;
-use sl_ratio::NoMemory;
 use sl_stages::{Book, Returns};
 use std::alloc::Global;
 

@@ -5,14 +5,14 @@ ghost use Rattle.sl_report_forms.specs.Cells.{Content};
 ghost use Rattle.sl_report_forms.specs.Tables.{table_of, with_rows};
 ghost use Rattle.sl_report_parties.specs.Parts.{part_of};
 ghost use Rattle.sl_report_tables.specs.Totals.{AreTotals, IsVotesRow, IsVotesTable, conditions_of, land_row, lands_table, totals_table, winners_table, won_at, won_row, won_rows};
-ghost use Rattle.sl_stages.specs.returns.Election.{lands_of, parties_of};
-ghost use Rattle.sl_stages.specs.returns.Facts.{all_valid_votes};
+ghost use Rattle.sl_law_meaning.specs.returns.Election.{lands_of, parties_of};
+ghost use Rattle.sl_law_meaning.specs.returns.Facts.{all_valid_votes};
 
 use crate::naming::Naming;
 use crate::rows::{Form, Part, add_sheet, one_row_sheet, push_row, titled};
 use crate::texts::{ColumnHead, LANDS_TITLE, PARTIES_TITLE, TOTALS_TITLE, WINNERS_TITLE};
 use crate::warnings::warnings_sheet;
-use sl_ratio::NoMemory;
+use sl_base_quotients::NoMemory;
 use sl_report_forms::{Look, Sheet};
 use sl_report_parties::{
     all_lists, all_people, all_votes, independents_in, lacking_votes, lacking_winners, land_votes,

@@ -4,12 +4,12 @@ ghost use Rattle.std.specs.Prelude.{◌≡◌, ◌∷◌, [], IfOk, OnOk, option
 ghost use Rattle.sl_report_forms.specs.Tables.{table_of, with_rows};
 ghost use Rattle.sl_report_tables.specs.Totals.{warning_row, warnings_table};
 ghost use Rattle.sl_report_warnings.specs.Warnings.{warnings_of};
-ghost use Rattle.sl_stages.specs.book.Books.{book_of};
+ghost use Rattle.sl_law_meaning.specs.book.Books.{book_of};
 
 use crate::naming::{Naming, text_of};
 use crate::rows::{Form, Part, push_row, titled};
 use crate::texts::{ColumnHead, WARNINGS_TITLE};
-use sl_ratio::NoMemory;
+use sl_base_quotients::NoMemory;
 use sl_report_forms::{Look, Sheet};
 use sl_report_warnings::{Warning, sentence, warnings_of};
 use sl_stages::Book;

@@ -10,10 +10,10 @@ use crate::texts::{
     ALL, CONDITION_WINNERS, MINORITY, SHAPE_LAND, SHAPE_LIST, SHAPE_ONE, SHAPE_PARTY, SHARE,
     UNIT_SEATS, UNIT_VOTES,
 };
+use sl_base_quotients::{Method, NoMemory};
 use sl_explain_texts::{Language, Message};
 use sl_lex::Keyword;
 use sl_parse::{keyword_method, method_keyword};
-use sl_ratio::{Method, NoMemory};
 use sl_stages::{Cond, Shape, Unit};
 use std::alloc::Global;
 

@@ -1,9 +1,9 @@
 -- A stage of another name is passed over.
 use Rattle.std.proofs.Common.{List, [], arith, drop, false, get_or, length, map, suc, zero, ◌<◌, ◌∷◌, ◌≡◌, ℕ}
 use Rattle.std.specs.Str.{bytes_eq}
-use Rattle.sl_stages.specs.book.Trees.{stage_of}
-use Rattle.sl_stages.specs.book.Typing.{Column}
-use Rattle.sl_stages.specs.declared.book.Stage.{Stage}
+use Rattle.sl_law_meaning.specs.book.Trees.{stage_of}
+use Rattle.sl_law_meaning.specs.book.Typing.{Column}
+use Rattle.sl_law_meaning.specs.declared.book.Stage.{Stage}
 use Rattle.sl_report_warnings.specs.Warnings.{shape_named}
 
 pub passes_over : (columns : List Column) (name : List ℕ) (ss : List Stage) (i : ℕ) (s : Stage) → i < length ss → s ≡ get_or ss i s → bytes_eq name s.name ≡ false

@@ -3,9 +3,9 @@ use Rattle.std.proofs.Common.{List, Some, append_assoc, ap, refl, ◌++◌, ◌+
 use Rattle.std.specs.List.{flat_map, range_with_len}
 use Rattle.std.specs.Prelude.{slice_get}
 use Rattle.sl_report_parties.proofs.Steps.{pieces_more}
-use Rattle.sl_stages.specs.book.Trees.{BookTree}
-use Rattle.sl_stages.specs.declared.returns.Lot.{Lot}
-use Rattle.sl_stages.specs.returns.Election.{Election}
+use Rattle.sl_law_meaning.specs.book.Trees.{BookTree}
+use Rattle.sl_law_meaning.specs.declared.election.Lot.{Lot}
+use Rattle.sl_law_meaning.specs.returns.Election.{Election}
 use Rattle.sl_report_warnings.specs.Warnings.{of_lot, of_numbered}
 
 pub pieces_behind : {X : Type 0} (f : ℕ → List X) (n : ℕ) (front xs ys : List X) → xs ≡ front ++ flat_map f (range_with_len 0 n) → ys ≡ xs ++ f n

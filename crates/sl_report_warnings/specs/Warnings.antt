@@ -5,18 +5,18 @@ use Rattle.std.specs.Str.{bytes_eq, str_eq_ignore_ascii_case}
 use Rattle.sl_check.specs.Drawn.{given_shape}
 use Rattle.sl_report_parties.specs.Cells.{is_won}
 use Rattle.sl_report_parties.specs.Sums.{lists_of}
-use Rattle.sl_stages.specs.book.Trees.{BookTree, StageTree}
-use Rattle.sl_stages.specs.book.Typing.{Column, columns_of}
-use Rattle.sl_stages.specs.declared.book.Cond.TheVariants as condition
-use Rattle.sl_stages.specs.declared.book.Cond.{Cond}
-use Rattle.sl_stages.specs.declared.book.Seating.TheVariants.{Cover, Keep}
-use Rattle.sl_stages.specs.declared.book.Seating.{Seating}
-use Rattle.sl_stages.specs.declared.returns.ListVotes.{ListVotes}
-use Rattle.sl_stages.specs.declared.returns.Lot.{Lot}
-use Rattle.sl_stages.specs.meaning.Lots.{given_entry, given_winner}
-use Rattle.sl_stages.specs.returns.Election.{Election, has_list, lands_of, list_at, parties_of, wins_of}
-use Rattle.sl_stages.specs.returns.Facts.{is_in, is_of, lands, parties}
-use Rattle.sl_stages.specs.returns.Votes.{counted_in, valid_in}
+use Rattle.sl_law_meaning.specs.book.Trees.{BookTree, StageTree}
+use Rattle.sl_law_meaning.specs.book.Typing.{Column, columns_of}
+use Rattle.sl_law_meaning.specs.declared.book.Cond.TheVariants as condition
+use Rattle.sl_law_meaning.specs.declared.book.Cond.{Cond}
+use Rattle.sl_law_meaning.specs.declared.book.Seating.TheVariants.{Cover, Keep}
+use Rattle.sl_law_meaning.specs.declared.book.Seating.{Seating}
+use Rattle.sl_law_meaning.specs.declared.election.ListVotes.{ListVotes}
+use Rattle.sl_law_meaning.specs.declared.election.Lot.{Lot}
+use Rattle.sl_law_meaning.specs.meaning.Lots.{given_entry, given_winner}
+use Rattle.sl_law_meaning.specs.returns.Election.{Election, has_list, lands_of, list_at, parties_of, wins_of}
+use Rattle.sl_law_meaning.specs.returns.Facts.{is_in, is_of, lands, parties}
+use Rattle.sl_law_meaning.specs.returns.Votes.{counted_in, valid_in}
 use Rattle.sl_base_terms.specs.declared.shape.Shape.{Shape}
 use Rattle.sl_report_warnings.specs.declared.warning.Warning.TheVariants.{EqualPeople, FewParties, LandWithoutWinners, LotOfNoEntry, LotUnused, NothingCounted, OtherHouse, SeveralParties, WinnersBesideLists, WinnersWithoutList}
 use Rattle.sl_report_warnings.specs.declared.warning.Warning.{Warning}

@@ -4,17 +4,17 @@ ghost use Rattle.std.specs.List.{list_any, range_with_len};
 ghost use Rattle.std.specs.Option.{option_map};
 ghost use Rattle.std.specs.Prelude.{◌≡◌, ◌++◌, ◌&&◌, IfOk, OnOk, flat_map, is_some, length, map};
 ghost use Rattle.sl_check.specs.inner.Known.{columns};
-ghost use Rattle.sl_stages.specs.book.Books.{book_of};
-ghost use Rattle.sl_stages.specs.book.Trees.{stage_of};
-ghost use Rattle.sl_stages.specs.meaning.Lots.{given_winner};
-ghost use Rattle.sl_stages.specs.returns.Facts.{is_in, is_of};
-ghost use Rattle.sl_stages.specs.returns.Election.{IsLot, lands_of, parties_of, wins_of};
+ghost use Rattle.sl_law_meaning.specs.book.Books.{book_of};
+ghost use Rattle.sl_law_meaning.specs.book.Trees.{stage_of};
+ghost use Rattle.sl_law_meaning.specs.meaning.Lots.{given_winner};
+ghost use Rattle.sl_law_meaning.specs.returns.Facts.{is_in, is_of};
+ghost use Rattle.sl_law_meaning.specs.returns.Election.{IsLot, lands_of, parties_of, wins_of};
 ghost use Rattle.sl_report_warnings.specs.Warnings.{has_entry, has_place, is_last, is_threshold, lot_shape, names_entry, of_book, of_house, of_lot, of_numbered, shape_named, warnings_of};
 
 use crate::returns::{warn, warn_of_returns};
 use crate::warning::Warning;
+use sl_base_quotients::NoMemory;
 use sl_check::{Columns, types_of};
-use sl_ratio::NoMemory;
 use sl_stages::{Book, Cond, Lot, Returns, Seating, Shape, Stage, Win};
 use std::alloc::Global;
 

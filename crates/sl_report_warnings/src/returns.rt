@@ -3,12 +3,12 @@
 ghost use Rattle.std.specs.List.{list_all};
 ghost use Rattle.std.specs.Prelude.{◌≡◌, ◌<◌, ◌++◌, OnOk, flat_map, nat_eq, slice_get};
 ghost use Rattle.std.specs.Str.{str_eq_ignore_ascii_case};
-ghost use Rattle.sl_stages.specs.returns.Election.{lands_of, list_at, parties_of};
-ghost use Rattle.sl_stages.specs.returns.Facts.{lands, parties};
+ghost use Rattle.sl_law_meaning.specs.returns.Election.{lands_of, list_at, parties_of};
+ghost use Rattle.sl_law_meaning.specs.returns.Facts.{lands, parties};
 ghost use Rattle.sl_report_warnings.specs.Warnings.{are_alike, counts_none, has_name_of_many, has_none, is_many, of_land, of_party, of_place, of_returns, of_winners, uncounted_lists, warned, winners_beside};
 
 use crate::warning::Warning;
-use sl_ratio::NoMemory;
+use sl_base_quotients::NoMemory;
 use sl_report_parties::{lists_of, one_if, winners_at, winners_in, winners_of};
 use sl_stages::Returns;
 

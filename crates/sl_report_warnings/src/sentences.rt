@@ -5,8 +5,8 @@ ghost use Rattle.sl_explain_texts.specs.Heads.{Begins};
 ghost use Rattle.sl_report_warnings.specs.Heads.{AreWritten, head_of};
 
 use crate::warning::Warning;
+use sl_base_quotients::NoMemory;
 use sl_explain_texts::{Language, Message, Speaker};
-use sl_ratio::NoMemory;
 use sl_stages::Returns;
 use std::alloc::Global;
 

@@ -4,8 +4,8 @@ use Rattle.std.specs.List.{slice_get, sum_by}
 use Rattle.std.specs.Option.{option_or}
 use Rattle.std.proofs.lemmas.Bool.{false≢true}
 use Rattle.std.proofs.lemmas.Option.{slice_get_within, get_or_from_slice_get}
-use Rattle.sl_stages.specs.returns.Election.{Election}
-use Rattle.sl_stages.specs.returns.Facts.{valid_votes}
+use Rattle.sl_law_meaning.specs.returns.Election.{Election}
+use Rattle.sl_law_meaning.specs.returns.Facts.{valid_votes}
 use Rattle.sl_returns.specs.declared.fault.ReturnsFault.{ReturnsFault}
 use Rattle.sl_returns.specs.Cells.{Record}
 use Rattle.sl_returns.specs.Records.{election_of_records, land_names, party_names, of_kind}

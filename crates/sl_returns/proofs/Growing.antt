@@ -5,11 +5,11 @@ use Rattle.std.proofs.lemmas.Bool.{true≢false}
 use Rattle.std.proofs.lemmas.List.{map_push}
 use Rattle.std.proofs.lemmas.List.Elements.{All-push, All-weaker}
 use Rattle.std.proofs.lemmas.Option.{none-some}
-use Rattle.sl_ratio.specs.Names.{IsNameList, name_fault}
-use Rattle.sl_ratio.proofs.NameLists.{with_name}
-use Rattle.sl_ratio.specs.declared.limits.TheConstants.{MAX_LANDS, MAX_PARTIES}
-use Rattle.sl_stages.specs.declared.returns.ListVotes.{ListVotes}
-use Rattle.sl_stages.specs.returns.Election.{Election, has_list}
+use Rattle.sl_base_quotients.specs.Names.{IsNameList, name_fault}
+use Rattle.sl_base_quotients.proofs.NameLists.{with_name}
+use Rattle.sl_base_quotients.specs.declared.limits.TheConstants.{MAX_LANDS, MAX_PARTIES}
+use Rattle.sl_law_meaning.specs.declared.election.ListVotes.{ListVotes}
+use Rattle.sl_law_meaning.specs.returns.Election.{Election, has_list}
 use Rattle.sl_returns.specs.declared.schema.TheConstants.{LAND, PARTY, A, B}
 use Rattle.sl_returns.specs.Cells.{Record, cell, number_of, number_in, place_in}
 use Rattle.sl_returns.specs.Records.{column, is_minority, list_from, rows_from, win_of, lot_of}

@@ -1,6 +1,6 @@
 -- What the records of one kind say, as what every record says.
 use Rattle.std.proofs.Common.{◌≡◌, Option, None, Result, Ok, Err, IfErr, OnOk, inl, inr, refl, subst}
-use Rattle.sl_stages.specs.returns.Election.{Election}
+use Rattle.sl_law_meaning.specs.returns.Election.{Election}
 use Rattle.sl_returns.specs.declared.schema.TheConstants.{KIND}
 use Rattle.sl_returns.specs.declared.header.Version.{Version}
 use Rattle.sl_returns.specs.declared.schema.Kind.{Kind}

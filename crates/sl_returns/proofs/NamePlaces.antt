@@ -6,7 +6,7 @@ use Rattle.std.proofs.lemmas.List.{length_push}
 use Rattle.std.proofs.lemmas.List.Sums.{passes_at_first}
 use Rattle.std.proofs.lemmas.Option.{none-some, slice_get-get_or}
 use Rattle.std.proofs.lemmas.Slice.Eq.{bytes_eq-Decides}
-use Rattle.sl_ratio.specs.Names.{IsNameList}
+use Rattle.sl_base_quotients.specs.Names.{IsNameList}
 use Rattle.sl_returns.specs.Cells.{is_blank, number_in, place_in, place_or_none}
 
 -- the list has the name

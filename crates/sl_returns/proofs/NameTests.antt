@@ -6,9 +6,9 @@ use Rattle.std.proofs.lemmas.Bool.{and_parts, not-true, leb-true, le-ltb, ltb-fa
 use Rattle.std.proofs.lemmas.List.Folds.{list_any_none}
 use Rattle.std.proofs.lemmas.List.Sums.{fails_before_first}
 use Rattle.std.proofs.lemmas.Option.{none-some, same_Some}
-use Rattle.sl_ratio.specs.declared.names.TheConstants.{MAX_NAME_BYTES}
-use Rattle.sl_ratio.specs.Names.{is_name, is_name_byte, name_fault, spelling_fault}
-use Rattle.sl_ratio.proofs.NameLists.{is_free}
+use Rattle.sl_base_quotients.specs.declared.spelling.TheConstants.{MAX_NAME_BYTES}
+use Rattle.sl_base_quotients.specs.Names.{is_name, is_name_byte, name_fault, spelling_fault}
+use Rattle.sl_base_quotients.proofs.NameLists.{is_free}
 use Rattle.sl_returns.specs.declared.fault.FaultKind.TheVariants as fault
 use Rattle.sl_returns.specs.Cells.{is_blank, number_in, place_in, place_or_none}
 use Rattle.sl_returns.specs.Faults.{of_cell}

@@ -1,8 +1,8 @@
 -- A name that stands at a place: it is found there, and passes the tests of a name that is to be known.
 use Rattle.std.proofs.Common.{◌≡◌, ℕ, true, List, Option, Some, None, IsTrue, slice_get, refl, sym, ap, subst, ◌∙◌}
 use Rattle.std.proofs.lemmas.Option.{slice_get_within, get_or_from_slice_get}
-use Rattle.sl_ratio.specs.Names.{NameList, IsNameList, is_name}
-use Rattle.sl_ratio.proofs.NameLists.{number_stands, number_lacks}
+use Rattle.sl_base_quotients.specs.Names.{NameList, IsNameList, is_name}
+use Rattle.sl_base_quotients.proofs.NameLists.{number_stands, number_lacks}
 use Rattle.sl_returns.specs.Cells.{number_in}
 use Rattle.sl_returns.specs.Tests.{Pass, one_test, name_tests, known_tests, known_name_tests}
 

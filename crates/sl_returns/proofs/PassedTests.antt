@@ -1,10 +1,10 @@
 -- What the tests of a record of each kind say of it.
 use Rattle.std.proofs.Common.{◌≡◌, ◌<◌, ◌++◌, ℕ, true, false, not, List, [], length, Option, Some, None, nat_lt, nat_le, is_none, refl}
 use Rattle.std.proofs.lemmas.Bool.{ltb-true, not-true, false≢true}
-use Rattle.sl_ratio.specs.Names.{is_name}
-use Rattle.sl_ratio.specs.declared.limits.TheConstants.{MAX_SEATS, MAX_LANDS, MAX_PARTIES, MAX_VOTES}
-use Rattle.sl_stages.specs.declared.limits.TheConstants.{MAX_WINS, MAX_LOTS, MAX_SLATE}
-use Rattle.sl_stages.specs.returns.Election.{Election, has_list, lands_of, parties_of, wins_of}
+use Rattle.sl_base_quotients.specs.Names.{is_name}
+use Rattle.sl_base_quotients.specs.declared.limits.TheConstants.{MAX_SEATS, MAX_LANDS, MAX_PARTIES, MAX_VOTES}
+use Rattle.sl_law_meaning.specs.declared.limits.TheConstants.{MAX_WINS, MAX_LOTS, MAX_SLATE}
+use Rattle.sl_law_meaning.specs.returns.Election.{Election, has_list, lands_of, parties_of, wins_of}
 use Rattle.sl_returns.specs.declared.schema.TheConstants.{LAND, PARTY, A, B, C}
 use Rattle.sl_returns.specs.declared.header.Version.{Version}
 use Rattle.sl_returns.specs.declared.schema.Kind.TheVariants as kind

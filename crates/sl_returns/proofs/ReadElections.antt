@@ -6,13 +6,13 @@ use Rattle.std.proofs.lemmas.List.{append-nil}
 use Rattle.std.proofs.lemmas.List.Elements.{All-nil}
 use Rattle.std.proofs.lemmas.Option.{none-some, same_Some}
 use Rattle.std.specs.List.{list_all}
-use Rattle.sl_ratio.specs.declared.names.TheConstants.{MAX_NAME_BYTES}
-use Rattle.sl_ratio.specs.Names.{IsNameList, is_name, is_name_byte, spelling_fault}
-use Rattle.sl_ratio.specs.declared.limits.TheConstants.{MAX_SEATS, MAX_LANDS, MAX_PARTIES, MAX_VOTES}
-use Rattle.sl_stages.specs.declared.limits.TheConstants.{MAX_WINS, MAX_SLATE}
+use Rattle.sl_base_quotients.specs.declared.spelling.TheConstants.{MAX_NAME_BYTES}
+use Rattle.sl_base_quotients.specs.Names.{IsNameList, is_name, is_name_byte, spelling_fault}
+use Rattle.sl_base_quotients.specs.declared.limits.TheConstants.{MAX_SEATS, MAX_LANDS, MAX_PARTIES, MAX_VOTES}
+use Rattle.sl_law_meaning.specs.declared.limits.TheConstants.{MAX_WINS, MAX_SLATE}
 use Rattle.sl_base_terms.specs.Tests.{first_failing}
-use Rattle.sl_stages.specs.returns.Election.{Election, IsElection}
-use Rattle.sl_stages.proofs.Elections.{is_with_house, is_with_land, is_with_party, is_with_list, is_with_win, is_with_lot}
+use Rattle.sl_law_meaning.specs.returns.Election.{Election, IsElection}
+use Rattle.sl_law_meaning.proofs.Elections.{is_with_house, is_with_land, is_with_party, is_with_list, is_with_win, is_with_lot}
 use Rattle.sl_returns.specs.declared.schema.TheConstants.{KIND, LAND, PARTY, A, B, C}
 use Rattle.sl_returns.specs.declared.fault.FaultKind.TheVariants as fault
 use Rattle.sl_returns.specs.declared.fault.ReturnsFault.{ReturnsFault}

@@ -9,8 +9,8 @@ use Rattle.std.proofs.lemmas.List.{map_push, length-map, length_push, get_or-map
 use Rattle.std.proofs.lemmas.List.Elements.{All-head, All-tail, All-from_get_or, All-weaker}
 use Rattle.std.proofs.lemmas.List.Folds.{find-append}
 use Rattle.std.proofs.lemmas.Slice.Eq.{bytes_eq-Decides}
-use Rattle.sl_ratio.specs.Names.{IsNameList}
-use Rattle.sl_ratio.specs.declared.limits.TheConstants.{MAX_LANDS, MAX_PARTIES}
+use Rattle.sl_base_quotients.specs.Names.{IsNameList}
+use Rattle.sl_base_quotients.specs.declared.limits.TheConstants.{MAX_LANDS, MAX_PARTIES}
 use Rattle.sl_returns.specs.declared.schema.TheConstants.{LAND, PARTY}
 use Rattle.sl_returns.specs.Cells.{Record, cell, number_in, place_in}
 use Rattle.sl_returns.specs.Records.{votes_of, names_both, list_from, row_from, rows_from}

@@ -3,9 +3,9 @@ use Rattle.std.proofs.Common.{◌≡◌, ◌++◌, ℕ, List, [], ◌∷◌, Opt
 use Rattle.std.proofs.lemmas.Bool.{false≢true}
 use Rattle.std.proofs.lemmas.List.Elements.{All-nil}
 use Rattle.std.proofs.lemmas.Option.{none-some}
-use Rattle.sl_ratio.specs.Names.{IsNameList, is_name}
-use Rattle.sl_ratio.specs.declared.limits.TheConstants.{MAX_LANDS, MAX_PARTIES}
-use Rattle.sl_stages.specs.returns.Election.{Election}
+use Rattle.sl_base_quotients.specs.Names.{IsNameList, is_name}
+use Rattle.sl_base_quotients.specs.declared.limits.TheConstants.{MAX_LANDS, MAX_PARTIES}
+use Rattle.sl_law_meaning.specs.returns.Election.{Election}
 use Rattle.sl_returns.specs.declared.schema.TheConstants.{KIND, LAND, PARTY}
 use Rattle.sl_returns.specs.declared.header.Version.{Version}
 use Rattle.sl_returns.specs.declared.schema.Kind.{Kind}

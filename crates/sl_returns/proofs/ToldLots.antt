@@ -2,7 +2,7 @@
 use Rattle.std.proofs.Common.{◌≡◌, false, ◌||◌, List, [], ◌∷◌, ◌++◌, map, refl, sym, ap, ◌∙◌, if◌then◌else◌}
 use Rattle.std.specs.List.{list_any}
 use Rattle.std.proofs.lemmas.List.{map-append}
-use Rattle.sl_stages.specs.declared.returns.Lot.{Lot}
+use Rattle.sl_law_meaning.specs.declared.election.Lot.{Lot}
 use Rattle.sl_returns.specs.declared.told.LotKey.{LotKey}
 use Rattle.sl_returns.specs.Tests.{same_lot, has_lot}
 use Rattle.sl_returns.specs.inner.LotKeys.{lot_kept, equal_keys, same_by_keys}

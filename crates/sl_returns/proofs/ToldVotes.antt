@@ -7,9 +7,9 @@ use Rattle.std.proofs.lemmas.List.{get_or-map, length-map}
 use Rattle.std.proofs.lemmas.List.Elements.{All-pop, filter-append}
 use Rattle.std.proofs.lemmas.List.Sums.{sum_by-cons, sum_by-append, sum_by-set, sum-map}
 use Rattle.std.proofs.lemmas.Slice.Eq.{bytes_eq-Decides}
-use Rattle.sl_ratio.specs.Names.{IsNameList}
-use Rattle.sl_ratio.specs.declared.limits.TheConstants.{MAX_LANDS, MAX_PARTIES}
-use Rattle.sl_stages.specs.returns.Votes.{valid_in}
+use Rattle.sl_base_quotients.specs.Names.{IsNameList}
+use Rattle.sl_base_quotients.specs.declared.limits.TheConstants.{MAX_LANDS, MAX_PARTIES}
+use Rattle.sl_law_meaning.specs.returns.Votes.{valid_in}
 use Rattle.sl_returns.specs.declared.schema.TheConstants.{LAND, PARTY, A}
 use Rattle.sl_returns.specs.Cells.{Record, cell, number_of, place_in}
 use Rattle.sl_returns.specs.Records.{list_from, rows_from, of_party}

@@ -1,7 +1,7 @@
 -- What the definitions of returns imply. Each law is the contract of a function of `laws`.
 use Rattle.std.specs.Prelude.{[], ◌≡◌, ◌∷◌, ℕ, List, None, Some, Ok, option_map, slice_get, sum_by}
-use Rattle.sl_stages.specs.returns.Election.{Election}
-use Rattle.sl_stages.specs.returns.Facts.{valid_votes}
+use Rattle.sl_law_meaning.specs.returns.Election.{Election}
+use Rattle.sl_law_meaning.specs.returns.Facts.{valid_votes}
 use Rattle.sl_returns.specs.declared.cells.TheConstants.{MAX_DIGITS}
 use Rattle.sl_returns.specs.declared.header.Version.{Version}
 use Rattle.sl_returns.specs.declared.schema.TheConstants.{A}

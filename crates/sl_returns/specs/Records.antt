@@ -1,11 +1,11 @@
 -- What an election is, read off the records after the header (docs/returns.md, section 4).
 use Rattle.std.specs.Prelude.{ℕ, ◌-◌, Bool, List, ◌++◌, length, map, filter, find, replicate, Option, None, option_map, nat_eq, ◌&&◌, slice_get}
 use Rattle.std.specs.Str.{bytes_eq}
-use Rattle.sl_ratio.specs.declared.limits.TheConstants.{MAX_PARTIES}
-use Rattle.sl_stages.specs.declared.returns.ListVotes.{ListVotes}
-use Rattle.sl_stages.specs.declared.returns.Win.{Win}
-use Rattle.sl_stages.specs.declared.returns.Lot.{Lot}
-use Rattle.sl_stages.specs.returns.Election.{Election}
+use Rattle.sl_base_quotients.specs.declared.limits.TheConstants.{MAX_PARTIES}
+use Rattle.sl_law_meaning.specs.declared.election.ListVotes.{ListVotes}
+use Rattle.sl_law_meaning.specs.declared.election.Win.{Win}
+use Rattle.sl_law_meaning.specs.declared.election.Lot.{Lot}
+use Rattle.sl_law_meaning.specs.returns.Election.{Election}
 use Rattle.sl_returns.specs.declared.schema.TheConstants.{KIND, LAND, PARTY, A, B, C}
 use Rattle.sl_returns.specs.declared.schema.Kind.{Kind}
 use Rattle.sl_returns.specs.declared.schema.Kind.TheVariants as kind

@@ -1,8 +1,8 @@
 -- The schema of the records: the kinds by their words, the columns by their names, and what each cell holds (docs/returns.md, section 1).
 use Rattle.std.specs.Prelude.{ℕ, List, [], ◌∷◌, Option, codes, find, get_or}
 use Rattle.std.specs.Str.{bytes_eq}
-use Rattle.sl_ratio.specs.declared.limits.TheConstants.{MAX_SEATS, MAX_VOTES}
-use Rattle.sl_stages.specs.declared.limits.TheConstants.{MAX_SLATE}
+use Rattle.sl_base_quotients.specs.declared.limits.TheConstants.{MAX_SEATS, MAX_VOTES}
+use Rattle.sl_law_meaning.specs.declared.limits.TheConstants.{MAX_SLATE}
 use Rattle.sl_returns.specs.declared.schema.Kind.{Kind}
 use Rattle.sl_returns.specs.declared.schema.Kind.TheVariants as kind
 use Rattle.sl_returns.specs.declared.schema.Content.{Content}

@@ -3,12 +3,12 @@
 use Rattle.std.specs.Prelude.{◌≡◌, ◌⊎◌, ◌+◌, ℕ, Bool, true, false, not, ◌&&◌, ◌||◌, List, [], ◌∷◌, ◌++◌, length, Option, Some, None, is_none, is_some, nat_eq, nat_le, nat_lt, codes, if◌then◌else◌}
 use Rattle.std.specs.List.{list_any}
 use Rattle.std.specs.Str.{bytes_eq}
-use Rattle.sl_ratio.specs.Names.{is_name}
-use Rattle.sl_ratio.specs.declared.limits.TheConstants.{MAX_LANDS, MAX_PARTIES}
-use Rattle.sl_stages.specs.declared.limits.TheConstants.{MAX_WINS, MAX_LOTS}
-use Rattle.sl_stages.specs.declared.returns.Lot.{Lot}
+use Rattle.sl_base_quotients.specs.Names.{is_name}
+use Rattle.sl_base_quotients.specs.declared.limits.TheConstants.{MAX_LANDS, MAX_PARTIES}
+use Rattle.sl_law_meaning.specs.declared.limits.TheConstants.{MAX_WINS, MAX_LOTS}
+use Rattle.sl_law_meaning.specs.declared.election.Lot.{Lot}
 use Rattle.sl_base_terms.specs.Tests.{Test, first_failing}
-use Rattle.sl_stages.specs.returns.Election.{Election, lands_of, parties_of, wins_of, has_list}
+use Rattle.sl_law_meaning.specs.returns.Election.{Election, lands_of, parties_of, wins_of, has_list}
 use Rattle.sl_returns.specs.declared.schema.TheConstants.{COLUMNS, KIND, LAND, PARTY, A, B, C}
 use Rattle.sl_returns.specs.declared.schema.Kind.{Kind}
 use Rattle.sl_returns.specs.declared.schema.Kind.TheVariants as kind

@@ -13,7 +13,7 @@ use crate::join::join;
 use crate::near::Near;
 use crate::refused::Before;
 use csv::ByteRecord;
-use sl_ratio::NoMemory;
+use sl_base_quotients::NoMemory;
 use sl_stages::Returns;
 use std::alloc::Global;
 use std::marker::Model;

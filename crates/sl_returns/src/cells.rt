@@ -4,7 +4,7 @@ ghost use Rattle.std.specs.Prelude.{◌≡◌, ◌≤◌, None, Some, true, IfOk
 ghost use Rattle.std.specs.Option.{ForSome};
 ghost use Rattle.std.specs.Char.{is_ascii_digit};
 ghost use Rattle.csv.specs.Records.{fields_of};
-ghost use Rattle.sl_ratio.specs.Names.{is_name};
+ghost use Rattle.sl_base_quotients.specs.Names.{is_name};
 ghost use Rattle.sl_returns.specs.Cells.{cell, is_blank, is_number, number_of, number_or_none};
 ghost use Rattle.sl_returns.specs.Faults.{of_cell, of_record};
 ghost use Rattle.sl_returns.specs.Schema.{least, greatest};
@@ -13,7 +13,7 @@ ghost use Rattle.sl_returns.specs.Tests.{Pass, FailBy, one_test, empty_tests, bl
 use crate::fault::{FaultKind, RecordFault};
 use crate::schema::{COLUMNS, Content, Kind, LAND, Quantity};
 use csv::ByteRecord;
-use sl_ratio::spelling_fault;
+use sl_base_quotients::spelling_fault;
 
 /// The greatest number of digits in a number.
 pub const MAX_DIGITS: usize = 12;

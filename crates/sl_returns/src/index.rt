@@ -1,12 +1,13 @@
 //! The names and the lots of the returns under way, found by an index.
 
 ghost use Rattle.std.specs.Prelude.{◌≡◌, ◌++◌, ◌∷◌, [], None, OnOk};
-ghost use Rattle.sl_ratio.specs.Names.{name_fault};
-ghost use Rattle.sl_stages.specs.returns.Election.{no_election};
+ghost use Rattle.sl_base_quotients.specs.Names.{name_fault};
+ghost use Rattle.sl_law_meaning.specs.returns.Election.{no_election};
 ghost use Rattle.sl_returns.specs.inner.Indexed.{index_of};
 
 use crate::told::ToldLots;
-use sl_ratio::{Names, NoMemory};
+use sl_base_quotients::NoMemory;
+use sl_ratio::Names;
 use sl_stages::{MAX_LANDS, MAX_PARTIES, MAX_WINS};
 use std::alloc::Global;
 

@@ -2,8 +2,8 @@
 
 ghost use Rattle.std.specs.Prelude.{◌≡◌, ◌<◌, IfErr, OnOk, IsOk, Some, false};
 ghost use Rattle.csv.specs.Records.{fields_of};
-ghost use Rattle.sl_stages.specs.returns.Votes.{IsListVotes};
-ghost use Rattle.sl_stages.specs.returns.Election.{lands_of, parties_of, has_list, with_list};
+ghost use Rattle.sl_law_meaning.specs.returns.Votes.{IsListVotes};
+ghost use Rattle.sl_law_meaning.specs.returns.Election.{lands_of, parties_of, has_list, with_list};
 ghost use Rattle.sl_returns.specs.Faults.{of_record};
 ghost use Rattle.sl_returns.specs.Tests.{Pass, Refuse, fills_list, house_tests, land_tests, party_tests, list_tests, win_tests, lot_tests, record_tests};
 ghost use Rattle.sl_returns.specs.inner.Indexed.{index_of};
@@ -19,7 +19,7 @@ use crate::lot::ToldLot;
 use crate::near::Near;
 use crate::schema::{A, B, C, COLUMNS, KIND, Kind, LAND, PARTY, Quantity};
 use csv::ByteRecord;
-use sl_ratio::NoMemory;
+use sl_base_quotients::NoMemory;
 use sl_stages::{ListVotes, MAX_LANDS, MAX_LOTS, MAX_PARTIES, MAX_WINS, Returns};
 
 // What the returns answer to a record that passed its tests.

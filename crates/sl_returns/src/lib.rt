@@ -1,6 +1,6 @@
 //! The returns of an election, read from records of comma-separated cells.
 //!
-//! Stands on `sl_stages`; used by the rooms returns and count. Proved: the election that the records tell, or the first fault.
+//! Stands on `sl_stages` and `sl_ratio`; used by the rooms returns and count. Proved: the election that the records tell, or the first fault.
 //!
 //! Where an error is `NoMemory` alone, memory ran out, and nothing else is wrong.
 #![tactic(auto)]

@@ -3,8 +3,8 @@
 ghost use Rattle.std.specs.Prelude.{◌≡◌, ◌<◌, IfOk, IfErr, OnOk, None, length, if◌then◌else◌};
 ghost use Rattle.std.specs.Option.{ForSome};
 ghost use Rattle.csv.specs.Records.{fields_of};
-ghost use Rattle.sl_ratio.specs.Names.{spelling_fault};
-ghost use Rattle.sl_stages.specs.returns.Election.{Election, IsLot};
+ghost use Rattle.sl_base_quotients.specs.Names.{spelling_fault};
+ghost use Rattle.sl_law_meaning.specs.returns.Election.{Election, IsLot};
 ghost use Rattle.sl_returns.specs.Cells.{is_blank, number_in};
 ghost use Rattle.sl_returns.specs.Records.{lot_of};
 ghost use Rattle.sl_returns.specs.Tests.{Pass, FailBy, name_or_none_tests, lot_cell_tests, filled_tests, names_entry, names_winner_of_seats};

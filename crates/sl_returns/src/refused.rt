@@ -21,7 +21,7 @@ pub struct Before {
 
 impl Before {
     ghost use Rattle.std.specs.Prelude.{length};
-    ghost use Rattle.sl_stages.specs.returns.Election.{lands_of, parties_of, wins_of};
+    ghost use Rattle.sl_law_meaning.specs.returns.Election.{lands_of, parties_of, wins_of};
 
     // What these returns have.
     pub(crate) fn of(returns: &Returns) -> Before

@@ -14,7 +14,7 @@ use crate::fault::ReturnsFault;
 use crate::read::reader_of;
 use crate::refused::{Before, MAX_FURTHER, RefusedRecord};
 use csv::{ByteRecord, ErrorKind};
-use sl_ratio::NoMemory;
+use sl_base_quotients::NoMemory;
 use std::alloc::Global;
 use std::mem;
 

@@ -7,7 +7,7 @@ ghost use Rattle.sl_returns.specs.inner.LotKeys.{lot_kept, fed_alike, same_as_eq
 
 use crate::lot::ToldLot;
 use indexmap::{Equivalent, IndexSet};
-use sl_ratio::NoMemory;
+use sl_base_quotients::NoMemory;
 use std::alloc::Global;
 use std::marker::Model;
 
@@ -45,7 +45,7 @@ pub(crate) struct ToldLots {
 
 impl Model for ToldLots {
     ghost use Rattle.std.specs.Prelude.{List, map};
-    ghost use Rattle.sl_stages.specs.declared.returns.Lot.{Lot};
+    ghost use Rattle.sl_law_meaning.specs.declared.election.Lot.{Lot};
     ghost use Rattle.sl_returns.specs.inner.LotKeys.{lot_kept};
 
     ghost Value = { List Lot };

@@ -1,6 +1,1 @@
-pub mod book
-pub mod returns
-pub mod methods
-pub mod meaning
-pub mod laws
 pub mod inner

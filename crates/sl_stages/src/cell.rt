@@ -1,9 +1,9 @@
 //! What stands in the cell of a list.
 
 ghost use Rattle.std.specs.Prelude.{◌≡◌, None, Some};
-ghost use Rattle.sl_stages.specs.returns.Votes.{IsListVotes};
+ghost use Rattle.sl_law_meaning.specs.returns.Votes.{IsListVotes};
 
-use crate::returns::ListVotes;
+use sl_law_meaning::ListVotes;
 use std::marker::Model;
 
 // What stands for no list, and for names left that are not given: no list has so many votes or names.
@@ -20,7 +20,7 @@ pub(crate) struct Cell {
 
 impl Model for Cell {
     ghost use Rattle.std.specs.Prelude.{Option};
-    ghost use Rattle.sl_stages.specs.declared.returns.ListVotes.{ListVotes};
+    ghost use Rattle.sl_law_meaning.specs.declared.election.ListVotes.{ListVotes};
 
     ghost Value = { Option ListVotes };
 

@@ -1,35 +1,18 @@
-//! What a rulebook, returns and an outcome are, and what a rulebook means.
+//! The returns of an election in memory; hands on what a rulebook, an election and an outcome are, and the laws on what a rulebook means.
 //!
-//! Stands on `sl_base_terms`; used by the rooms law, book, returns, code and report. Proved: a rulebook means exactly one outcome on returns.
+//! Stands on `sl_law_meaning`; used by the rooms returns, code, count, explain and report. Proved: the returns are the election that was put into
+//! them, in range.
 #![tactic(auto)]
 
-mod book;
 mod cell;
-mod check_fault;
-mod checked;
-mod count;
-mod fact;
-mod fault;
-mod label;
-pub mod laws;
-mod limits;
+mod find;
 mod returns;
-mod table;
 
-pub use book::{
-    Axis, Base, Book, ColumnType, Cond, Expr, LastClause, Majority, Number, Pairing, Seating,
-    Stage, Unit,
-};
-pub use check_fault::CheckFault;
-pub use checked::CheckedBook;
-pub use count::{Column, Counted, End, Records};
-pub use fact::{FACTS, Fact};
-pub use fault::{FaultKind, Item, Items, LegalFault, Scope};
-pub use label::Label;
-pub use limits::{
+pub use returns::Returns;
+pub use sl_law_meaning::{
+    Axis, Base, Book, CheckFault, CheckedBook, Column, ColumnType, Cond, Counted, End, Expr, FACTS,
+    Fact, FaultKind, Item, Items, Label, LastClause, LegalFault, ListSeats, ListVotes, Lot,
     MAX_DEPTH, MAX_LANDS, MAX_LOTS, MAX_NUMBER, MAX_PARTIES, MAX_PARTS, MAX_PER, MAX_SEATS,
-    MAX_SLATE, MAX_STAGES, MAX_VOTES, MAX_WINS,
+    MAX_SLATE, MAX_STAGES, MAX_VOTES, MAX_WINS, Majority, Mark, Number, Outcome, Pairing, Placed,
+    Records, SHAPES, Scope, SeatStep, Seating, Shape, Stage, Table, Unit, Weight, Win, Word, laws,
 };
-pub use returns::{ListVotes, Lot, Returns, Win};
-pub use sl_base_terms::{SHAPES, Shape, Word};
-pub use table::{ListSeats, Mark, Outcome, Placed, SeatStep, Table, Weight};

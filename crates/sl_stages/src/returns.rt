@@ -3,40 +3,15 @@
 ghost use Rattle.std.specs.Prelude.{◌≡◌, ◌<◌, Some, IfSome, slice_get, slice_index};
 ghost use Rattle.std.specs.List.{position};
 ghost use Rattle.std.specs.Str.{bytes_eq};
-ghost use Rattle.sl_stages.specs.returns.Votes.{valid_in, counted_in, slate_in};
+ghost use Rattle.sl_law_meaning.specs.returns.Votes.{valid_in, counted_in, slate_in};
 
 mod add;
 
 use crate::cell::Cell;
-use crate::label::{Label, number_among};
+use crate::find::number_among;
+use sl_law_meaning::{Label, ListVotes, Lot, Win};
 use std::alloc::Global;
 use std::marker::Model;
-
-/// The votes of a list, and how many names are left on it, if that is given.
-#[derive(Clone, Copy)]
-pub struct ListVotes {
-    pub valid: u32,
-    pub counted: u32,
-    pub slate: Option<u32>,
-}
-
-/// The winner of a constituency: the Land, the party, if there is one, the winner's first votes, and all valid first votes.
-#[derive(Clone, Copy)]
-pub struct Win {
-    pub land: usize,
-    pub party: Option<usize>,
-    pub first: u32,
-    pub valid: u32,
-}
-
-/// A lot that was drawn: the Land and the party that it names, the stage, or `seats`, at which it counts, and with `seats` the winner.
-#[derive(Drop)]
-pub struct Lot {
-    pub land: Option<usize>,
-    pub party: Option<usize>,
-    pub stage: Label,
-    pub win: Option<usize>,
-}
 
 /// The returns of an election, whose numbers are all in range. Länder, parties and winners have the numbers of their records, from 0.
 #[derive(Drop)]
@@ -55,7 +30,7 @@ pub struct Returns {
 }
 
 impl Model for Returns {
-    ghost use Rattle.sl_stages.specs.returns.Election.{Election, IsElection};
+    ghost use Rattle.sl_law_meaning.specs.returns.Election.{Election, IsElection};
 
     ghost Value = { Election };
 
@@ -67,7 +42,7 @@ impl Model for Returns {
 }
 
 impl Returns {
-    ghost use Rattle.sl_stages.specs.returns.Election.{Election, IsElection, lands_of, parties_of, wins_of, list_at, has_list, no_election};
+    ghost use Rattle.sl_law_meaning.specs.returns.Election.{Election, IsElection, lands_of, parties_of, wins_of, list_at, has_list, no_election};
 
     /// Returns without a record. Takes no memory.
     pub fn empty(alloc: Global) -> Returns

@@ -4,9 +4,9 @@ use Rattle.std.specs.List.{range_with_len}
 use Rattle.std.proofs.lemmas.Bool.{cases_lt}
 use Rattle.std.proofs.lemmas.List.FromFn.{fill_by_all}
 use Rattle.std.proofs.lemmas.Nat.{div_below, mod_below}
-use Rattle.sl_stages.specs.returns.Election.{Election, lands_of, parties_of}
-use Rattle.sl_stages.specs.returns.Facts.{by_list}
-use Rattle.sl_stages.proofs.meaning.ListPlaces.{length_by_list, by_list_at}
+use Rattle.sl_law_meaning.specs.returns.Election.{Election, lands_of, parties_of}
+use Rattle.sl_law_meaning.specs.returns.Facts.{by_list}
+use Rattle.sl_law_meaning.proofs.meaning.ListPlaces.{length_by_list, by_list_at}
 
 module _ (e : Election) (f : ℕ → ℕ → ℕ) where
   -- the column as one of places

@@ -3,8 +3,8 @@ use Rattle.std.proofs.Common.{◌≡◌, ℕ, ◌+◌, ◌<◌, List, [], ◌∷
 use Rattle.std.specs.List.{All, flat_map, filter, range_with_len}
 use Rattle.std.proofs.lemmas.List.Elements.{All-nil, All-head, All-tail, All-append, All-map, All-filter, All-from_get_or}
 use Rattle.std.proofs.lemmas.List.FromFn.{length-range_with_len, get_or-range_with_len}
-use Rattle.sl_stages.specs.returns.Election.{Election, lands_of, parties_of, has_list}
-use Rattle.sl_stages.specs.returns.Facts.{lands, parties, each_list}
+use Rattle.sl_law_meaning.specs.returns.Election.{Election, lands_of, parties_of, has_list}
+use Rattle.sl_law_meaning.specs.returns.Facts.{lands, parties, each_list}
 use Rattle.sl_code_semantics.specs.Memories.{Held}
 use Rattle.sl_code_semantics.specs.Tables.{held_line}
 use Rattle.sl_count_texts.specs.inner.Fits.{IsOf}

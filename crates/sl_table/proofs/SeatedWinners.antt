@@ -5,13 +5,13 @@ use Rattle.std.specs.Option.{ForSome}
 use Rattle.std.proofs.lemmas.Bool.{cases_eq, ne_eqb}
 use Rattle.std.proofs.lemmas.List.Elements.{All-head, All-tail}
 use Rattle.std.proofs.lemmas.Nat.{same_from_place}
-use Rattle.sl_stages.specs.declared.returns.Win.{Win}
-use Rattle.sl_stages.specs.declared.table.Placed.{Placed}
-use Rattle.sl_stages.specs.declared.table.Placed.TheVariants as placed
-use Rattle.sl_stages.specs.returns.Election.{Election, IsElection, IsWin, lands_of, parties_of}
-use Rattle.sl_stages.specs.returns.Facts.{is_in, is_of, by_list}
-use Rattle.sl_stages.specs.meaning.Seating.{is_on, placed_on}
-use Rattle.sl_stages.proofs.meaning.PlacedWinners.{count_each}
+use Rattle.sl_law_meaning.specs.declared.election.Win.{Win}
+use Rattle.sl_law_meaning.specs.declared.table.Placed.{Placed}
+use Rattle.sl_law_meaning.specs.declared.table.Placed.TheVariants as placed
+use Rattle.sl_law_meaning.specs.returns.Election.{Election, IsElection, IsWin, lands_of, parties_of}
+use Rattle.sl_law_meaning.specs.returns.Facts.{is_in, is_of, by_list}
+use Rattle.sl_law_meaning.specs.meaning.Seating.{is_on, placed_on}
+use Rattle.sl_law_meaning.proofs.meaning.PlacedWinners.{count_each}
 use Rattle.sl_count_texts.proofs.PartyWinners.{is_at, always, never}
 use Rattle.sl_table.specs.inner.Places.{list_place}
 use Rattle.sl_table.proofs.Cells.{by_list_as}

@@ -3,8 +3,8 @@ use Rattle.std.specs.Prelude.{ℕ, List, [], ◌∷◌, flat_map, filter, codes,
 use Rattle.std.specs.Fmt.{decimal}
 use Rattle.sl_base_terms.specs.declared.shape.Shape.{Shape}
 use Rattle.sl_base_terms.specs.declared.shape.Shape.TheVariants as shape
-use Rattle.sl_stages.specs.returns.Election.{Election, has_list}
-use Rattle.sl_stages.specs.returns.Facts.{lands, parties, list_cell}
+use Rattle.sl_law_meaning.specs.returns.Election.{Election, has_list}
+use Rattle.sl_law_meaning.specs.returns.Facts.{lands, parties, list_cell}
 use Rattle.sl_count_texts.specs.Faults.{list_word}
 use Rattle.sl_count_texts.specs.Lines.{line}
 use Rattle.sl_count_texts.specs.Short.{land_word, party_word}

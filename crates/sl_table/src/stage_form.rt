@@ -1,8 +1,8 @@
 //! The text of a stage's column: a line for each entry, in order.
 
 ghost use Rattle.std.specs.Prelude.{◌≡◌, ◌<◌, ◌*◌, false, IfOk, OnOk, length, flat_map};
-ghost use Rattle.sl_stages.specs.returns.Election.{lands_of, parties_of};
-ghost use Rattle.sl_stages.specs.returns.Facts.{lands, parties};
+ghost use Rattle.sl_law_meaning.specs.returns.Election.{lands_of, parties_of};
+ghost use Rattle.sl_law_meaning.specs.returns.Facts.{lands, parties};
 ghost use Rattle.sl_code_semantics.specs.Fits.{FitsMemory};
 ghost use Rattle.sl_code_semantics.specs.Places.{cells_of};
 ghost use Rattle.sl_count_texts.specs.Faults.{list_word};
@@ -10,10 +10,10 @@ ghost use Rattle.sl_count_texts.specs.Lines.{with_lines};
 ghost use Rattle.sl_table.specs.HeldStages.{stage_slot, held_stage_text};
 ghost use Rattle.sl_table.specs.Stages.{entry_line, party_entry, land_entry, land_lists, stage_text};
 
+use sl_base_quotients::NoMemory;
 use sl_code_instructions::Code;
 use sl_code_steps::Memory;
 use sl_count_texts::Text;
-use sl_ratio::NoMemory;
 use sl_stages::{Returns, Shape};
 use std::alloc::Global;
 

@@ -2,16 +2,16 @@
 
 ghost use Rattle.std.specs.Prelude.{◌≡◌, ◌<◌, ◌*◌, ◌++◌, IfOk, OnOk, IfSome, map, filter};
 ghost use Rattle.std.specs.Option.{ForSome};
-ghost use Rattle.sl_stages.specs.returns.Election.{lands_of, parties_of, has_list};
-ghost use Rattle.sl_stages.specs.returns.Facts.{parties, each_list, by_list};
-ghost use Rattle.sl_stages.specs.meaning.Seating.{placed_on};
+ghost use Rattle.sl_law_meaning.specs.returns.Election.{lands_of, parties_of, has_list};
+ghost use Rattle.sl_law_meaning.specs.returns.Facts.{parties, each_list, by_list};
+ghost use Rattle.sl_law_meaning.specs.meaning.Seating.{placed_on};
 ghost use Rattle.sl_code_semantics.specs.Tables.{held_line, held_table};
 ghost use Rattle.sl_table.specs.inner.Held.{FitsHeld};
 ghost use Rattle.sl_count_texts.specs.inner.Fits.{Fits};
 ghost use Rattle.sl_table.specs.inner.Places.{list_place};
 
+use sl_base_quotients::NoMemory;
 use sl_code_steps::Memory;
-use sl_ratio::NoMemory;
 use sl_stages::{ListSeats, Placed, Returns, Table, Win};
 use std::alloc::Global;
 

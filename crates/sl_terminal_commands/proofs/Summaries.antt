@@ -8,16 +8,16 @@ use Rattle.sl_explain_calls.specs.Codes.{book_code, election_code, subject}
 use Rattle.sl_count_inputs.specs.Books.{IsBookVerdict}
 use Rattle.sl_count_inputs.specs.Judging.{election_verdict, refusal_of, returns_refusal_of, tree_verdict}
 use Rattle.sl_report_commands.specs.Methods.{IsTreeVerdictBy, IsVerdictBy}
-use Rattle.sl_terminal_count.specs.Inputs.{named_input}
+use Rattle.sl_terminal_outside.specs.Inputs.{named_input}
 use Rattle.sl_count_inputs.specs.declared.refused_book.RefusedBook.{RefusedBook}
 use Rattle.sl_count_inputs.specs.declared.refused_election.RefusedElection.{RefusedElection}
 use Rattle.sl_count_inputs.specs.declared.status.Input.TheVariants as input
 use Rattle.sl_count_inputs.specs.declared.status.Status.{Status}
 use Rattle.sl_count_inputs.specs.declared.verdict.Verdict.TheVariants.{Good, Refused}
 use Rattle.sl_count_inputs.specs.declared.verdict.Verdict.{Verdict}
-use Rattle.sl_stages.specs.book.Books.{book_of}
-use Rattle.sl_stages.specs.declared.checked.CheckedBook.{CheckedBook}
-use Rattle.sl_stages.specs.returns.Election.{Election}
+use Rattle.sl_law_meaning.specs.book.Books.{book_of}
+use Rattle.sl_law_meaning.specs.declared.checked.CheckedBook.{CheckedBook}
+use Rattle.sl_law_meaning.specs.returns.Election.{Election}
 use Rattle.sl_terminal_commands.specs.Beside.{AreNames}
 use Rattle.sl_terminal_commands.specs.Sums.{AreBad, AreGood, AreJudged, IsGoodBook, IsOfComparison, IsOfSums, IsComparing, IsOfRefused, IsRefusedBy, IsSumming, IsVerdictOn}
 use Rattle.sl_terminal_commands.specs.declared.sums.NamedBook.{NamedBook}

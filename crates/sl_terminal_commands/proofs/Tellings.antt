@@ -9,7 +9,7 @@ use Rattle.sl_explain_texts.specs.declared.language.Language.{Language}
 use Rattle.sl_count_inputs.specs.Writing.{AppendsPrefix, Writes}
 use Rattle.sl_count_inputs.specs.declared.status.Status.TheVariants as status
 use Rattle.sl_count_inputs.specs.declared.status.Status.{Status}
-use Rattle.sl_stages.specs.returns.Election.{Election}
+use Rattle.sl_law_meaning.specs.returns.Election.{Election}
 use Rattle.sl_terminal_commands.proofs.Deliveries.{keeps_nothing}
 use Rattle.sl_terminal_commands.specs.Ends.{IsSilent}
 use Rattle.sl_terminal_commands.specs.Frames.{TellsNothing}

@@ -3,7 +3,7 @@ use Rattle.std.specs.Prelude.{IfSome, List, Option, Some, ⊤, ◌≡◌, ℕ}
 use Rattle.sl_desk.specs.Compiling.{IsCompilingOutput}
 use Rattle.sl_count_inputs.specs.Statuses.{status_number}
 use Rattle.sl_count_inputs.specs.declared.status.Status.{Status}
-use Rattle.sl_terminal_count.specs.Inputs.{named_input}
+use Rattle.sl_terminal_outside.specs.Inputs.{named_input}
 use Rattle.sl_terminal_words.specs.declared.command_line.Request.TheVariants.{Code}
 use Rattle.sl_terminal_words.specs.declared.command_line.Request.{Request}
 

@@ -12,7 +12,7 @@ use Rattle.sl_count_inputs.specs.Library.{IsLawOutput}
 use Rattle.sl_count_inputs.specs.Reading.{ForKnown}
 use Rattle.sl_count_inputs.specs.declared.status.Status.TheVariants as status
 use Rattle.sl_count_inputs.specs.declared.status.Status.{Status}
-use Rattle.sl_terminal_count.specs.Inputs.{named_input}
+use Rattle.sl_terminal_outside.specs.Inputs.{named_input}
 use Rattle.sl_report_commands.specs.Statuses.{IsReportStatus}
 use Rattle.sl_terminal_commands.specs.Beside.{AreBeside}
 use Rattle.sl_terminal_commands.specs.Ends.{Exits}

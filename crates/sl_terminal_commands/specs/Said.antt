@@ -3,17 +3,17 @@ use Rattle.std.specs.Io.KnownBytes.{Keeps}
 use Rattle.std.specs.Prelude.{Bool, List, None, Option, Some, if◌then◌else◌, ℕ}
 use Rattle.sl_count_calls.specs.declared.judged.Judged.TheVariants as judged
 use Rattle.sl_count_calls.specs.declared.judged.Judged.{Judged}
-use Rattle.sl_stages.specs.declared.count.End.TheVariants as ends
-use Rattle.sl_stages.specs.declared.count.End.{End}
+use Rattle.sl_law_meaning.specs.declared.count.End.TheVariants as ends
+use Rattle.sl_law_meaning.specs.declared.count.End.{End}
 use Rattle.sl_explain_texts.specs.Heads.{Begins, head_of}
 use Rattle.sl_explain_texts.specs.declared.code.FaultCode.{FaultCode}
 use Rattle.sl_explain_texts.specs.declared.language.Language.{Language}
 use Rattle.sl_explain_calls.specs.Codes.{Subject, end_subject, judged_subject}
 use Rattle.sl_count_inputs.specs.Writing.{AppendsPrefix}
 use Rattle.sl_report_commands.specs.Statuses.{is_stopped}
-use Rattle.sl_stages.specs.book.Books.{book_of}
-use Rattle.sl_stages.specs.declared.checked.CheckedBook.{CheckedBook}
-use Rattle.sl_stages.specs.returns.Election.{Election}
+use Rattle.sl_law_meaning.specs.book.Books.{book_of}
+use Rattle.sl_law_meaning.specs.declared.checked.CheckedBook.{CheckedBook}
+use Rattle.sl_law_meaning.specs.returns.Election.{Election}
 use Rattle.sl_terminal_commands.specs.declared.terminal.Terminal.{Terminal}
 use Rattle.sl_report_warnings.specs.Heads.{AreWritten}
 use Rattle.sl_report_warnings.specs.Warnings.{warnings_of}

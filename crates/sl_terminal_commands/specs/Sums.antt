@@ -14,11 +14,11 @@ use Rattle.sl_count_inputs.specs.declared.status.Status.{Status}
 use Rattle.sl_count_inputs.specs.declared.verdict.Verdict.TheVariants.{Good, Refused}
 use Rattle.sl_count_inputs.specs.declared.verdict.Verdict.{Verdict}
 use Rattle.sl_laws.specs.Books.{books as statutes}
-use Rattle.sl_ratio.specs.declared.method.Method.{Method}
+use Rattle.sl_base_quotients.specs.declared.method.Method.{Method}
 use Rattle.sl_report_commands.specs.Methods.{IsVerdictBy}
-use Rattle.sl_terminal_count.specs.Inputs.{named_input}
-use Rattle.sl_stages.specs.book.Trees.{BookTree}
-use Rattle.sl_stages.specs.returns.Election.{Election}
+use Rattle.sl_terminal_outside.specs.Inputs.{named_input}
+use Rattle.sl_law_meaning.specs.book.Trees.{BookTree}
+use Rattle.sl_law_meaning.specs.returns.Election.{Election}
 use Rattle.sl_terminal_commands.specs.Beside.{AreNames}
 use Rattle.sl_terminal_commands.specs.Said.{Said, fault, nothing, warned}
 use Rattle.sl_report_warnings.specs.Warnings.{warnings_of}

@@ -3,8 +3,8 @@ use Rattle.std.specs.Option.{option_map}
 use Rattle.std.specs.Prelude.{Bool, IfSome, List, None, Option, Some, false, map, true, ℕ}
 use Rattle.sl_count_calls.specs.Judged.{IsJudged}
 use Rattle.sl_count_calls.specs.declared.judged.Judged.{Judged}
-use Rattle.sl_stages.specs.declared.count.Records.TheVariants as records
-use Rattle.sl_stages.specs.declared.count.Records.{Records}
+use Rattle.sl_law_meaning.specs.declared.count.Records.TheVariants as records
+use Rattle.sl_law_meaning.specs.declared.count.Records.{Records}
 use Rattle.sl_desk.specs.JudgedRuns.{IsJudged as IsJudgedRun}
 use Rattle.sl_desk.specs.declared.calls.run.JudgedRun.{JudgedRun}
 use Rattle.sl_explain_texts.specs.declared.code.FaultCode.TheVariants.{B01}
@@ -15,8 +15,8 @@ use Rattle.sl_count_inputs.specs.Reading.{ForKnown}
 use Rattle.sl_count_inputs.specs.declared.refused_book.RefusedBook.{RefusedBook}
 use Rattle.sl_count_inputs.specs.declared.status.Input.TheVariants as input
 use Rattle.sl_count_inputs.specs.declared.verdict.Verdict.{Verdict}
-use Rattle.sl_terminal_count.specs.Inputs.{named_input}
-use Rattle.sl_stages.specs.declared.checked.CheckedBook.{CheckedBook}
+use Rattle.sl_terminal_outside.specs.Inputs.{named_input}
+use Rattle.sl_law_meaning.specs.declared.checked.CheckedBook.{CheckedBook}
 use Rattle.sl_terminal_commands.specs.Beside.{AreBeside}
 use Rattle.sl_terminal_commands.specs.Said.{Said, fault, judged_said, nothing, report_said, said_of}
 use Rattle.sl_terminal_commands.specs.Sums.{IsOfComparison, IsOfSums, compared_words, given_word}

@@ -4,7 +4,7 @@ ghost use Rattle.std.specs.Prelude.{◌≡◌, IfErr, IfOk, IfSome, List, Some, 
 ghost use Rattle.sl_desk.specs.Compiling.{IsCompiling};
 ghost use Rattle.sl_explain_calls.specs.Codes.{check_subject};
 ghost use Rattle.sl_count_inputs.specs.Judging.{tree_verdict};
-ghost use Rattle.sl_terminal_count.specs.Inputs.{named_input};
+ghost use Rattle.sl_terminal_outside.specs.Inputs.{named_input};
 ghost use Rattle.sl_terminal_commands.specs.Ends.{Ends, IsEarly, IsSilent};
 ghost use Rattle.sl_terminal_commands.specs.Files.{HasCode};
 ghost use Rattle.sl_terminal_commands.specs.Frames.{TellsNothing};
@@ -16,7 +16,7 @@ use crate::failure::Failure;
 use crate::terminal::Terminal;
 use sl_count_inputs::{Bytes, Input, MAX_CODE_BYTES, ReadBook, Sink, Status, read_all};
 use sl_desk::{Compilation, compilation_of};
-use sl_terminal_count::Outside;
+use sl_terminal_outside::Outside;
 
 // How each code file begins.
 const OPENING: &[u8] = b"SLC\x01";

@@ -15,7 +15,7 @@ ghost use Rattle.sl_count_inputs.specs.Reading.{ForKnown};
 ghost use Rattle.sl_count_inputs.specs.Statuses.{status_number};
 ghost use Rattle.sl_count_inputs.specs.declared.status.Input.TheVariants as input;
 ghost use Rattle.sl_count_inputs.specs.declared.status.Status.TheVariants as status;
-ghost use Rattle.sl_terminal_count.specs.Inputs.{named_input};
+ghost use Rattle.sl_terminal_outside.specs.Inputs.{named_input};
 ghost use Rattle.sl_terminal_commands.specs.Ends.{Ends, IsEarly, IsSilent};
 ghost use Rattle.sl_terminal_commands.specs.Files.{LeavesCode};
 ghost use Rattle.sl_terminal_commands.specs.Frames.{OnlyTells, TellsNothing};
@@ -32,7 +32,7 @@ use sl_desk::{ReadRun, View, check_answer, judge_run, law_text, run_answer, show
 use sl_explain_calls::{explain_book, explain_run};
 use sl_explain_codes::text_about;
 use sl_explain_texts::FaultCode;
-use sl_terminal_count::{Outside, open, open_book};
+use sl_terminal_outside::{Outside, open, open_book};
 use sl_terminal_words::{Request, Show};
 
 impl<O: Outside, W: Sink, E: Sink> Terminal<O, W, E> {

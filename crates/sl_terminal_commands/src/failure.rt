@@ -4,9 +4,9 @@ ghost use Rattle.std.specs.Prelude.{◌≡◌};
 ghost use Rattle.sl_count_inputs.specs.declared.status.DeskError.TheVariants as fault;
 ghost use Rattle.sl_terminal_commands.specs.declared.failure.Failure.TheVariants as failure;
 
+use sl_base_quotients::NoMemory;
 use sl_count_inputs::DeskError;
-use sl_ratio::NoMemory;
-use sl_terminal_count::Unopened;
+use sl_terminal_outside::Unopened;
 use std::alloc::AllocFailed;
 
 /// Why a command was not completed.

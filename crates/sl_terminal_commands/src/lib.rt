@@ -1,6 +1,6 @@
 //! The program over what lies outside: from the words of the command line to the texts on standard output and standard error and the exit status.
 //!
-//! Stands on `sl_report_commands`, `sl_explain_codes`, `sl_terminal_count` and `sl_terminal_words`; used by the rooms terminal and test.
+//! Stands on `sl_report_commands`, `sl_explain_codes`, `sl_terminal_outside` and `sl_terminal_words`; used by the rooms terminal and test.
 //! Proved: what a request writes, its status, and of which fault standard error speaks.
 #![tactic(auto)]
 

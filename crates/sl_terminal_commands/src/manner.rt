@@ -6,8 +6,8 @@ ghost use Rattle.sl_terminal_commands.specs.Digested.{called_digests, named_dige
 
 use crate::reports::book_bytes;
 use crate::sums::{NamedBook, NamedReturns};
+use sl_base_quotients::NoMemory;
 use sl_explain_calls::Explained;
-use sl_ratio::NoMemory;
 use sl_report_commands::{
     Answer, DigestedInput, Style, digested_book, digested_returns, push_digested, refusal_of,
     text_of, told_of,

@@ -10,7 +10,7 @@ ghost use Rattle.sl_report_warnings.specs.declared.warning.Warning.{Warning};
 
 use crate::terminal::Terminal;
 use sl_count_inputs::{Sink, write_all};
-use sl_terminal_count::Outside;
+use sl_terminal_outside::Outside;
 use sl_terminal_words::{Answer, Asked, ReportForm, Request, request_of};
 
 // Whether it is a report in JSON.

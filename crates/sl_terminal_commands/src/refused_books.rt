@@ -8,9 +8,9 @@ ghost use Rattle.sl_terminal_commands.specs.inner.Verdicts.{IsGood};
 
 use crate::sums::NamedBook;
 use crate::varied::add_method;
+use sl_base_quotients::NoMemory;
 use sl_count_inputs::{RefusedBook, Verdict};
 use sl_explain_calls::{Explained, explain_book};
-use sl_ratio::NoMemory;
 use sl_report_commands::{Language, add_refused};
 use std::alloc::Global;
 

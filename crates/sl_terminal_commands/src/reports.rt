@@ -3,10 +3,10 @@
 ghost use Rattle.std.specs.Prelude.{◌≡◌, ◌<◌, ◌^◌, ◌⊎◌, ◌||◌, Bool, Err, IfErr, IfOk, None, false, is_err, option_map, true};
 ghost use Rattle.sl_count_calls.specs.Fitting.{FitsJudged};
 ghost use Rattle.sl_count_calls.specs.Judged.{IsJudged};
-ghost use Rattle.sl_stages.specs.declared.count.Records.TheVariants.{Kept};
+ghost use Rattle.sl_law_meaning.specs.declared.count.Records.TheVariants.{Kept};
 ghost use Rattle.sl_count_inputs.specs.Reading.{ForKnown};
 ghost use Rattle.sl_count_inputs.specs.declared.status.Status.TheVariants as status;
-ghost use Rattle.sl_terminal_count.specs.Inputs.{named_input};
+ghost use Rattle.sl_terminal_outside.specs.Inputs.{named_input};
 ghost use Rattle.sl_report_commands.specs.Statuses.{is_stopped, judged_status};
 ghost use Rattle.sl_terminal_commands.specs.Beside.{AreNames};
 ghost use Rattle.sl_terminal_commands.specs.Digested.{word_bytes};
@@ -24,7 +24,7 @@ use sl_report_commands::{
     Answer, EarlierParty, FullNames, MAX_BEFORE_BYTES, MAX_NAMES_BYTES, Shape, Show, Style, Texts,
     answer_judged, bytes_of, earlier_in, judged_text, names_in,
 };
-use sl_terminal_count::{Outside, open, open_book};
+use sl_terminal_outside::{Outside, open, open_book};
 use sl_terminal_words::{Report, ReportForm};
 
 // How a report is written: with the names of a file and beside the earlier seat table of one, where they are given, in a form and in a language.

@@ -18,11 +18,11 @@ use crate::statutes::{library_words, statutes_of};
 use crate::sums::{NamedBook, NamedReturns};
 use crate::terminal::Terminal;
 use crate::varied::{all_varied, behind, column_words, methods_of};
+use sl_base_quotients::{Method, NoMemory};
 use sl_count_inputs::{DeskError, RefusedBook, RefusedElection, Sink, Status, Verdict};
-use sl_ratio::{Method, NoMemory};
 use sl_report_commands::{Answer, Compared, FullNames, Language, compare_judged};
 use sl_stages::{CheckedBook, Returns};
-use sl_terminal_count::Outside;
+use sl_terminal_outside::Outside;
 use std::alloc::Global;
 
 // The rulebook of a verdict, if it is good.

@@ -5,9 +5,9 @@ ghost use Rattle.sl_terminal_commands.specs.Sums.{library_words};
 ghost use Rattle.sl_terminal_commands.specs.inner.Statutes.{IsJudgedStatute};
 
 use crate::sums::NamedBook;
+use sl_base_quotients::NoMemory;
 use sl_count_inputs::{BookText, ReadBook, judge_book};
 use sl_laws::STATUTES;
-use sl_ratio::NoMemory;
 use std::alloc::Global;
 
 // The word that names a statute of this name.

@@ -19,14 +19,14 @@ use crate::refused_books::{FirstRefused, explain_refused};
 use crate::reports::Writing;
 use crate::telling::ReadFile;
 use crate::terminal::Terminal;
+use sl_base_quotients::{Method, NoMemory};
 use sl_count_inputs::{
     Input, ReadBook, ReadReturns, RefusedElection, Sink, Status, Verdict, read_book, read_election,
 };
 use sl_explain_calls::explain_election;
-use sl_ratio::{Method, NoMemory};
 use sl_report_commands::{Answer, FullNames, Language, totals_answer};
 use sl_stages::{CheckedBook, Returns};
-use sl_terminal_count::{Outside, open, open_book};
+use sl_terminal_outside::{Outside, open, open_book};
 use std::alloc::Global;
 
 /// A rulebook that was read, with the word that names it, and with the method that took the place of its own, if one did.

@@ -6,13 +6,14 @@ ghost use Rattle.sl_explain_calls.specs.Codes.{Subject, check_subject, judged_su
 ghost use Rattle.sl_terminal_commands.specs.Ends.{IsSilent, failure_number};
 ghost use Rattle.sl_terminal_commands.specs.Frames.{OnlyTells};
 ghost use Rattle.sl_count_inputs.specs.declared.status.Status.TheVariants.{Done};
-ghost use Rattle.sl_stages.specs.book.Books.{book_of};
+ghost use Rattle.sl_law_meaning.specs.book.Books.{book_of};
 ghost use Rattle.sl_terminal_commands.specs.Said.{Explains, OnlyWarns, Says, fault, judged_said, said_of, warned};
 ghost use Rattle.sl_report_warnings.specs.Heads.{AreWritten};
 ghost use Rattle.sl_report_warnings.specs.Warnings.{warnings_of};
 
 use crate::failure::Failure;
 use crate::terminal::Terminal;
+use sl_base_quotients::NoMemory;
 use sl_count_calls::{Counting, End, Judged, Read};
 use sl_count_inputs::{DeskError, Input, ReadBook, Sink, Status, write_all};
 use sl_explain_calls::{
@@ -20,11 +21,10 @@ use sl_explain_calls::{
     explain_writing,
 };
 use sl_explain_texts::{Explanation, Language, VERSION, written};
-use sl_ratio::NoMemory;
 use sl_report_commands::failed_text;
 use sl_report_warnings::warnings_of;
 use sl_stages::{Book, Returns};
-use sl_terminal_count::{Outside, Unopened};
+use sl_terminal_outside::{Outside, Unopened};
 use sl_terminal_words::reason_in;
 use std::alloc::Global;
 use std::fmt::Display;

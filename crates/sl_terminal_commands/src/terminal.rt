@@ -7,7 +7,7 @@ ghost use Rattle.sl_terminal_commands.specs.Frames.{OnlyTells, TellsNothing};
 use crate::failure::Failure;
 use sl_count_inputs::{DeskError, Sink, Status, write_all};
 use sl_explain_texts::Language;
-use sl_terminal_count::Outside;
+use sl_terminal_outside::Outside;
 use sl_terminal_words::Options;
 use std::alloc::Global;
 

@@ -3,17 +3,17 @@
 ghost use Rattle.std.specs.Prelude.{◌≡◌, ◌≤◌, ◌++◌, All, IfOk, length};
 ghost use Rattle.sl_explain_calls.specs.Codes.{subject_of};
 ghost use Rattle.sl_count_inputs.specs.Judging.{tree_verdict};
-ghost use Rattle.sl_ratio.specs.declared.method.Method.{Method};
+ghost use Rattle.sl_base_quotients.specs.declared.method.Method.{Method};
 ghost use Rattle.sl_report_commands.specs.Methods.{IsTreeVerdictBy};
-ghost use Rattle.sl_stages.specs.book.Books.{book_of};
+ghost use Rattle.sl_law_meaning.specs.book.Books.{book_of};
 ghost use Rattle.sl_terminal_commands.specs.inner.Verdicts.{IsVariedBy, IsVariedOf};
 
 use crate::reports::book_bytes;
 use crate::sums::NamedBook;
+use sl_base_quotients::{Method, NoMemory};
 use sl_count_inputs::{ReadBook, Verdict};
 use sl_explain_calls::Explained;
 use sl_explain_texts::Message;
-use sl_ratio::{Method, NoMemory};
 use sl_report_commands::{Language, book_by, method_of, method_word};
 use sl_stages::CheckedBook;
 use std::alloc::Global;

@@ -12,7 +12,7 @@ use Rattle.sl_count_inputs.specs.Reading.{ForKnown}
 use Rattle.sl_count_inputs.specs.Statuses.{status_number}
 use Rattle.sl_count_inputs.specs.Writing.{Delivers}
 use Rattle.sl_count_inputs.specs.declared.status.Status.{Status}
-use Rattle.sl_terminal_count.specs.Inputs.{named_input}
+use Rattle.sl_terminal_outside.specs.Inputs.{named_input}
 
 -- the exit status: 1 for words that ask for no count, 5 for an error, and else that of what was written
 abbrev pub exit_number : Exit → ℕ

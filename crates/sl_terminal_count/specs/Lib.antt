@@ -1,4 +1,3 @@
--- What words name outside, what they ask for, and how the program that counts ends.
-pub mod Inputs
+-- What words ask for, and how the program that counts ends.
 pub mod Words
 pub mod Exits

@@ -1,16 +1,15 @@
 //! Counting over the files at the paths that words name.
 
 ghost use Rattle.std.specs.Prelude.{◌≡◌, IfErr, IfOk};
-ghost use Rattle.sl_terminal_count.specs.Inputs.{IsUnopened, named_input};
+ghost use Rattle.sl_terminal_outside.specs.Inputs.{IsUnopened, named_input};
 ghost use Rattle.sl_count_calls.specs.Shows.{IsShownOutput};
 ghost use Rattle.sl_count_inputs.specs.Reading.{ForKnown, book_input};
 ghost use Rattle.sl_count_inputs.specs.Writing.{Delivers};
 
-use crate::inputs::{open, open_book};
-use crate::outside::Outside;
 use crate::words::Count;
 use sl_count_calls::{View, count, stage, steps};
 use sl_count_inputs::{BookSource, DeskError, Input, Sink, Source, Status};
+use sl_terminal_outside::{Outside, open, open_book};
 use std::alloc::Global;
 
 // The inputs of a count, the book opened first.

@@ -4,9 +4,9 @@ ghost use Rattle.std.specs.Prelude.{◌≡◌, map, string_bytes};
 ghost use Rattle.sl_terminal_count.specs.Exits.{IsExit, exit_number, is_told};
 
 use crate::counting::counted;
-use crate::outside::Outside;
 use crate::words::count_of;
 use sl_count_inputs::{DeskError, Sink, Status};
+use sl_terminal_outside::Outside;
 use std::alloc::Global;
 use std::fmt;
 

@@ -8,7 +8,7 @@ use crate::texts::{NO_MEMORY, TIP};
 use clap::error::ErrorKind;
 use clap::{Command, Error};
 use sl_explain_texts::{Language, Message, append};
-use sl_ratio::NoMemory;
+use sl_base_quotients::NoMemory;
 use std::alloc::{AllocError, Global};
 
 /// What is said of words that ask for no command.

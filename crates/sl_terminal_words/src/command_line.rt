@@ -8,7 +8,7 @@ use crate::texts::{NO_COMMAND, SAME_FILE, UNKNOWN_CODE};
 use crate::words::{Given, Word};
 use clap::{Arg, ArgAction, ArgMatches, Command};
 use sl_explain_texts::{FaultCode, Language, Message, VERSION};
-use sl_ratio::NoMemory;
+use sl_base_quotients::NoMemory;
 use std::alloc::{AllocError, Global};
 
 /// What is shown of an election that is counted.

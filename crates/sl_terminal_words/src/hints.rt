@@ -7,7 +7,7 @@ use crate::texts::{
 };
 use clap::error::ErrorKind;
 use sl_explain_texts::{Language, Message};
-use sl_ratio::NoMemory;
+use sl_base_quotients::NoMemory;
 use std::alloc::Global;
 
 // Words that are taken for commands, and the commands.

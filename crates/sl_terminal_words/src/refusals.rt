@@ -10,7 +10,7 @@ use crate::texts::{
     UNEXPECTED_VALUE, UNKNOWN_SUBCOMMAND, UNLIKE_ARGUMENT, UNLIKE_ARGUMENTS,
 };
 use sl_explain_texts::{Language, Message, append};
-use sl_ratio::NoMemory;
+use sl_base_quotients::NoMemory;
 use std::alloc::{AllocError, Global};
 
 // The sentences.

@@ -3,13 +3,13 @@
 ghost use Rattle.std.specs.Prelude.{IfOk};
 ghost use Rattle.sl_machine.specs.Fits.{Fits};
 
+use sl_base_quotients::NoMemory;
 use sl_check::check;
 use sl_code_semantics::Verified;
 use sl_compile::compile;
 use sl_lex::lex;
 use sl_machine::{Ending, budget, run};
 use sl_parse::parse;
-use sl_ratio::NoMemory;
 use sl_stages::{CheckedBook, Returns};
 use std::alloc::Global;
 

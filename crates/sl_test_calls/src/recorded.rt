@@ -4,10 +4,10 @@
 use crate::assertions::assert_none;
 use crate::refused::texts::{Asked, runs_on};
 use crate::rows::{HALT, ONE_LIST};
+use sl_base_quotients::Divisor;
 use sl_code::from_bytes;
 use sl_code_semantics::Verified;
 use sl_machine::{Ending, Memory, budget, run};
-use sl_ratio::Divisor;
 use sl_returns::read_returns;
 use sl_stages::{Item, Scope, Shape, Weight};
 use sl_verify::verify;

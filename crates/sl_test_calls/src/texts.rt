@@ -1,8 +1,8 @@
 //! Texts that no command shows: those of faults, of lines with words of every kind, and of the smallest table.
 
+use sl_base_quotients::NoMemory;
 use sl_lex::LexFault;
 use sl_parse::ParseFault;
-use sl_ratio::NoMemory;
 use sl_returns::{A, FaultKind, ReturnsFault};
 use sl_stages::{Returns, Table};
 use sl_table::{Text, short_text};

@@ -2,7 +2,7 @@
 
 use crate::rows::Named;
 use crate::unknown::Unknown;
-use sl_terminal_count::Outside;
+use sl_terminal_outside::Outside;
 use sl_test_support::{Narrow, Slow};
 use std::alloc::Global;
 

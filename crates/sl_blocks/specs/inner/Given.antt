@@ -1,9 +1,9 @@
 -- The instructions that are given to the plans of a block.
 use Rattle.std.specs.Prelude.{ℕ, List, [], ◌∷◌, Option, None, Some, unwrap_or}
-use Rattle.sl_ratio.specs.declared.method.Divisor.{Divisor}
-use Rattle.sl_ratio.specs.declared.method.Divisor.TheVariants as divisor
-use Rattle.sl_ratio.specs.declared.method.Method.{Method}
-use Rattle.sl_ratio.specs.declared.method.Method.TheVariants as by
+use Rattle.sl_base_quotients.specs.declared.method.Divisor.{Divisor}
+use Rattle.sl_base_quotients.specs.declared.method.Divisor.TheVariants as divisor
+use Rattle.sl_base_quotients.specs.declared.method.Method.{Method}
+use Rattle.sl_base_quotients.specs.declared.method.Method.TheVariants as by
 use Rattle.sl_code_instructions.specs.declared.instr.Instr.{Instr}
 use Rattle.sl_code_instructions.specs.declared.instr.Instr.TheVariants.{Set, Get, Store, Zero, Table, Prio, Emit, Given, Fault, Tie, Takelot, Weigh}
 use Rattle.sl_code_instructions.specs.declared.operand.EndFault.TheVariants as end

@@ -7,17 +7,17 @@ use Rattle.std.specs.Ordering.{is_le}
 use Rattle.std.proofs.lemmas.List.Elements.{Contains-get_or}
 use Rattle.std.proofs.lemmas.List.Sums.{AllPass-from_list_all, list_all-from_AllPass}
 use Rattle.std.proofs.lemmas.Bool.{cases_lt}
-use Rattle.sl_ratio.specs.declared.entry.Entry.{Entry}
-use Rattle.sl_prio.specs.Lot.{place_in_lot, lot_cmp}
-use Rattle.sl_prio.specs.Lot as machine
-use Rattle.sl_prio.specs.Prio.{peers, is_covered}
-use Rattle.sl_prio.proofs.Finding.{All-at, Contains-none}
-use Rattle.sl_prio.proofs.LawProofs.{draws}
-use Rattle.sl_prio.proofs.LotPlaces.{not_later}
-use Rattle.sl_stages.specs.methods.Ties.{NamesAll}
-use Rattle.sl_stages.specs.methods.Ties as meaning
-use Rattle.sl_stages.specs.laws.Awards.{DrawsNext}
-use Rattle.sl_stages.proofs.methods.DrawnLots.{is_in, stands_in}
+use Rattle.sl_base_quotients.specs.declared.entry.Entry.{Entry}
+use Rattle.sl_base_rankings.specs.Lot.{place_in_lot, lot_cmp}
+use Rattle.sl_base_rankings.specs.Lot as machine
+use Rattle.sl_base_rankings.specs.Peers.{peers, is_covered}
+use Rattle.sl_base_rankings.proofs.Finding.{All-at, Contains-none}
+use Rattle.sl_base_rankings.proofs.LawProofs.{draws}
+use Rattle.sl_base_rankings.proofs.LotPlaces.{not_later}
+use Rattle.sl_law_meaning.specs.methods.Ties.{NamesAll}
+use Rattle.sl_law_meaning.specs.methods.Ties as meaning
+use Rattle.sl_law_meaning.specs.laws.Awards.{DrawsNext}
+use Rattle.sl_law_meaning.proofs.methods.DrawnLots.{is_in, stands_in}
 use Rattle.sl_code_semantics.specs.SameLots.{SameLot, PeersAre, SameCovers, SameDraws}
 use Rattle.sl_code_semantics.proofs.drawing.LotOrder.{place_at, place_least, place_apart}
 

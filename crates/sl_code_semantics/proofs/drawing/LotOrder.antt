@@ -7,10 +7,10 @@ use Rattle.std.proofs.lemmas.Bool.{cases_Bool, cases_eq, cases_lt, lt-ltb, trueâ
 use Rattle.std.proofs.lemmas.List.Kept.{AllPairs-from_increasing}
 use Rattle.std.proofs.lemmas.List.Quantifiers.{position-Some}
 use Rattle.std.proofs.lemmas.List.Sums.{fails_before_first}
-use Rattle.sl_prio.specs.Lot.{place_in_lot}
-use Rattle.sl_prio.proofs.LotPlaces.{place_is, place_here, place_later}
-use Rattle.sl_prio.proofs.Finding.{Contains-head, Contains-tail, Contains-cases, Contains-none, Contains-filter, filter-Contains}
-use Rattle.sl_stages.specs.meaning.Lots.{first_mentions}
+use Rattle.sl_base_rankings.specs.Lot.{place_in_lot}
+use Rattle.sl_base_rankings.proofs.LotPlaces.{place_is, place_here, place_later}
+use Rattle.sl_base_rankings.proofs.Finding.{Contains-head, Contains-tail, Contains-cases, Contains-none, Contains-filter, filter-Contains}
+use Rattle.sl_law_meaning.specs.meaning.Lots.{first_mentions}
 
 -- ---- the place in a lot, number by number
 

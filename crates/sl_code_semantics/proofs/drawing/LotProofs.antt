@@ -11,13 +11,13 @@ use Rattle.std.proofs.lemmas.List.Elements.{All-head, All-tail, All-filter, All-
 use Rattle.std.proofs.lemmas.Nat.{div-mul-add, mod-mul-add}
 use Rattle.std.proofs.lemmas.Option.{same_Some}
 use Rattle.sl_base_terms.specs.declared.shape.Shape.TheVariants as shape
-use Rattle.sl_stages.specs.declared.fault.Item.{Item}
-use Rattle.sl_stages.specs.declared.fault.Item.TheVariants as item
-use Rattle.sl_stages.specs.declared.returns.Lot.{Lot}
-use Rattle.sl_stages.specs.returns.Election.{Election, IsElection, IsLot, lands_of, parties_of}
-use Rattle.sl_stages.specs.meaning.Scopes.{place, same_item}
-use Rattle.sl_stages.specs.meaning.Lots.{lots_named, given_entry, given_winner, is_winner_of, first_mentions, lot_among}
-use Rattle.sl_stages.proofs.meaning.OneAward.{mentions_distinct}
+use Rattle.sl_law_meaning.specs.declared.fault.Item.{Item}
+use Rattle.sl_law_meaning.specs.declared.fault.Item.TheVariants as item
+use Rattle.sl_law_meaning.specs.declared.election.Lot.{Lot}
+use Rattle.sl_law_meaning.specs.returns.Election.{Election, IsElection, IsLot, lands_of, parties_of}
+use Rattle.sl_law_meaning.specs.meaning.Scopes.{place, same_item}
+use Rattle.sl_law_meaning.specs.meaning.Lots.{lots_named, given_entry, given_winner, is_winner_of, first_mentions, lot_among}
+use Rattle.sl_law_meaning.proofs.meaning.OneAward.{mentions_distinct}
 use Rattle.sl_code_instructions.specs.declared.operand.Entries.{Entries}
 use Rattle.sl_code_instructions.specs.declared.operand.Entries.TheVariants as entries
 use Rattle.sl_code_semantics.specs.Places.{item_of}

@@ -1,23 +1,23 @@
 -- The instructions that record seats and weights, that seat winners, and that end a run.
 use Rattle.std.proofs.Common.{◌≡◌, ℕ, suc, min, Bool, true, map, Option, Some, slice_get, if◌then◌else◌, refl, ap, ◌∙◌}
-use Rattle.sl_ratio.specs.declared.entry.Entry.{Entry}
-use Rattle.sl_ratio.specs.declared.limits.TheConstants.{MAX_WEIGHT}
-use Rattle.sl_stages.specs.declared.fault.FaultKind.{FaultKind}
-use Rattle.sl_stages.specs.declared.fault.FaultKind.TheVariants as fault
-use Rattle.sl_stages.specs.declared.fault.Scope.{Scope}
-use Rattle.sl_stages.specs.declared.returns.Win.{Win}
-use Rattle.sl_stages.specs.declared.table.Mark.{Mark}
-use Rattle.sl_stages.specs.declared.table.Mark.TheVariants as mark
-use Rattle.sl_stages.specs.declared.table.Placed.TheVariants as placed
-use Rattle.sl_stages.specs.declared.table.SeatStep.{SeatStep}
-use Rattle.sl_stages.specs.declared.table.Weight.{Weight}
-use Rattle.sl_stages.specs.returns.Election.{Election, has_list}
+use Rattle.sl_base_quotients.specs.declared.entry.Entry.{Entry}
+use Rattle.sl_base_quotients.specs.declared.limits.TheConstants.{MAX_WEIGHT}
+use Rattle.sl_law_meaning.specs.declared.fault.FaultKind.{FaultKind}
+use Rattle.sl_law_meaning.specs.declared.fault.FaultKind.TheVariants as fault
+use Rattle.sl_law_meaning.specs.declared.fault.Scope.{Scope}
+use Rattle.sl_law_meaning.specs.declared.election.Win.{Win}
+use Rattle.sl_law_meaning.specs.declared.table.Mark.{Mark}
+use Rattle.sl_law_meaning.specs.declared.table.Mark.TheVariants as mark
+use Rattle.sl_law_meaning.specs.declared.table.Placed.TheVariants as placed
+use Rattle.sl_law_meaning.specs.declared.table.SeatStep.{SeatStep}
+use Rattle.sl_law_meaning.specs.declared.table.Weight.{Weight}
+use Rattle.sl_law_meaning.specs.returns.Election.{Election, has_list}
 use Rattle.sl_code_instructions.specs.declared.instr.Instr.TheVariants as instr
 use Rattle.sl_code_instructions.specs.declared.operand.EndFault.{EndFault}
 use Rattle.sl_code_instructions.specs.declared.operand.Rounding.{Rounding}
 use Rattle.sl_code_instructions.specs.declared.operand.ScopeKind.{ScopeKind}
 use Rattle.sl_code_instructions.specs.Codes.{CountingCode}
-use Rattle.sl_prio.specs.Prio.{top, peers}
+use Rattle.sl_base_rankings.specs.Peers.{top, peers}
 use Rattle.sl_code_semantics.specs.State.{State, PriorityTable, Faulted, with_place}
 use Rattle.sl_code_semantics.specs.Places.{index_at, item_of, scope_at}
 use Rattle.sl_code_instructions.specs.Numbers.{divisor_of}

@@ -2,7 +2,7 @@
 use Rattle.std.proofs.Common.{◌≡◌, ◌≢◌, ℕ, suc, ◌+◌, ◌-◌, ◌/◌, ◌%◌, ◌<◌, ◌≤◌, min, max, ◌==◌, Option, Some, None, slice_get, if◌then◌else◌, refl, ap, arith, ne_eqb}
 use Rattle.std.proofs.lemmas.Bool.{lt-ltb, le-ltb}
 use Rattle.sl_base_terms.specs.declared.shape.Shape.{Shape}
-use Rattle.sl_stages.specs.returns.Election.{Election}
+use Rattle.sl_law_meaning.specs.returns.Election.{Election}
 use Rattle.sl_code_instructions.specs.declared.instr.Instr.TheVariants as instr
 use Rattle.sl_code_instructions.specs.declared.operand.Input.{Input}
 use Rattle.sl_code_instructions.specs.Codes.{CountingCode}

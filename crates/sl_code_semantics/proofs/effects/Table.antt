@@ -1,17 +1,17 @@
 -- The instructions on the priority table.
 use Rattle.std.proofs.Common.{◌≡◌, ℕ, suc, ◌+◌, min, Bool, true, false, List, length, Some, if◌then◌else◌, refl, ap, ◌∙◌}
-use Rattle.sl_ratio.specs.declared.entry.Entry.{Entry}
-use Rattle.sl_ratio.specs.declared.limits.TheConstants.{MAX_WEIGHT, MAX_SEATS}
-use Rattle.sl_ratio.specs.declared.method.Divisor.{Divisor}
-use Rattle.sl_ratio.specs.Quotient.{Quotient, quotient}
-use Rattle.sl_stages.specs.declared.returns.Win.{Win}
-use Rattle.sl_stages.specs.returns.Election.{Election}
+use Rattle.sl_base_quotients.specs.declared.entry.Entry.{Entry}
+use Rattle.sl_base_quotients.specs.declared.limits.TheConstants.{MAX_WEIGHT, MAX_SEATS}
+use Rattle.sl_base_quotients.specs.declared.method.Divisor.{Divisor}
+use Rattle.sl_base_quotients.specs.Quotient.{Quotient, quotient}
+use Rattle.sl_law_meaning.specs.declared.election.Win.{Win}
+use Rattle.sl_law_meaning.specs.returns.Election.{Election}
 use Rattle.sl_code_instructions.specs.declared.instr.Instr.TheVariants as instr
 use Rattle.sl_code_instructions.specs.declared.operand.Ranking.{Ranking}
 use Rattle.sl_code_instructions.specs.declared.operand.Ranking.TheVariants as ranking
 use Rattle.sl_code_instructions.specs.Codes.{CountingCode}
-use Rattle.sl_prio.specs.Prio.{top, peers, is_covered}
-use Rattle.sl_prio.specs.Lot.{drawn}
+use Rattle.sl_base_rankings.specs.Peers.{top, peers, is_covered}
+use Rattle.sl_base_rankings.specs.Lot.{drawn}
 use Rattle.sl_code_semantics.specs.State.{State, PriorityTable, with_register}
 use Rattle.sl_code_semantics.specs.Places.{index_at, at_entry}
 use Rattle.sl_code_semantics.specs.Drawn.{lot_of}

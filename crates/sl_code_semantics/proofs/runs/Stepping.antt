@@ -1,6 +1,6 @@
 -- One step of a run, by the case of the effect.
 use Rattle.std.proofs.Common.{◌≡◌, ℕ, ◌+◌, suc, Option, Some, slice_get, ap, ◌∙◌}
-use Rattle.sl_stages.specs.returns.Election.{Election}
+use Rattle.sl_law_meaning.specs.returns.Election.{Election}
 use Rattle.sl_code_instructions.specs.Codes.{CountingCode}
 use Rattle.sl_code_instructions.specs.declared.instr.Instr.{Instr}
 use Rattle.sl_code_instructions.specs.Rows.{target_of}

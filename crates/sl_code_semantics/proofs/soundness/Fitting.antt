@@ -7,12 +7,12 @@ use Rattle.std.proofs.lemmas.Option.{slice_get_within, same_Some}
 use Rattle.sl_base_terms.specs.declared.shape.Shape.{Shape}
 use Rattle.sl_base_terms.specs.declared.shape.Shape.TheVariants as shape
 use Rattle.sl_base_terms.specs.Shapes.{same_shape}
-use Rattle.sl_stages.specs.declared.fault.Scope.{Scope}
-use Rattle.sl_stages.specs.declared.fault.Scope.TheVariants as scope
-use Rattle.sl_stages.specs.declared.table.Mark.{Mark}
-use Rattle.sl_stages.specs.declared.table.SeatStep.{SeatStep}
-use Rattle.sl_stages.specs.declared.table.Weight.{Weight}
-use Rattle.sl_stages.specs.returns.Election.{Election, lands_of, parties_of}
+use Rattle.sl_law_meaning.specs.declared.fault.Scope.{Scope}
+use Rattle.sl_law_meaning.specs.declared.fault.Scope.TheVariants as scope
+use Rattle.sl_law_meaning.specs.declared.table.Mark.{Mark}
+use Rattle.sl_law_meaning.specs.declared.table.SeatStep.{SeatStep}
+use Rattle.sl_law_meaning.specs.declared.table.Weight.{Weight}
+use Rattle.sl_law_meaning.specs.returns.Election.{Election, lands_of, parties_of}
 use Rattle.sl_code_instructions.specs.declared.code.CodeStage.{CodeStage}
 use Rattle.sl_code_instructions.specs.declared.instr.Instr.{Instr}
 use Rattle.sl_code_instructions.specs.declared.instr.Instr.TheVariants as instr
@@ -26,7 +26,7 @@ use Rattle.sl_code_instructions.specs.Codes.{CountingCode}
 use Rattle.sl_code_semantics.specs.declared.known.TheConstants.{LAST_CLAUSE}
 use Rattle.sl_code_semantics.specs.Needs.{has_columns, has_column}
 use Rattle.sl_code_semantics.specs.WellKinded.{context_of}
-use Rattle.sl_prio.specs.Prio.{top, peers}
+use Rattle.sl_base_rankings.specs.Peers.{top, peers}
 use Rattle.sl_code_semantics.specs.State.{State, PriorityTable}
 use Rattle.sl_code_semantics.specs.Places.{both, index_at, item_of, at_entry, scope_at}
 use Rattle.sl_code_semantics.specs.Effects.{Effect, Goes, Jumps, Ends, NoCase, effect, given, where_positive, to_party, first_of, seat_winner, sets_house, counts_peers, stage_of, kind_of, at_scope}

@@ -5,7 +5,7 @@ use Rattle.std.specs.Option.{option_map_or}
 use Rattle.std.proofs.lemmas.Bool.{eqb-false}
 use Rattle.sl_base_terms.specs.declared.shape.Shape.{Shape}
 use Rattle.sl_base_terms.specs.declared.shape.Shape.TheVariants as shape
-use Rattle.sl_stages.specs.returns.Election.{Election, has_list}
+use Rattle.sl_law_meaning.specs.returns.Election.{Election, has_list}
 use Rattle.sl_base_terms.specs.Shapes.{same_shape}
 use Rattle.sl_code_instructions.specs.Codes.{CountingCode}
 use Rattle.sl_code_instructions.specs.declared.instr.Instr.{Instr}

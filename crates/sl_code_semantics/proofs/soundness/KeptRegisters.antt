@@ -2,7 +2,7 @@
 use Rattle.std.proofs.Common.{◌⊎◌, ℕ, ◌+◌, ◌*◌, ◌<◌, min, max, Bool, false, ◌&&◌, ◌||◌, IsTrue, Option, Some, None, refl, sym, inl, inr, arith, mul-pos}
 use Rattle.std.specs.Option.{ForSome}
 use Rattle.std.proofs.lemmas.Bool.{and_parts, or_cases, true≢false}
-use Rattle.sl_stages.specs.returns.Election.{Election, IsElection}
+use Rattle.sl_law_meaning.specs.returns.Election.{Election, IsElection}
 use Rattle.sl_code_instructions.specs.declared.instr.Instr.TheVariants as op
 use Rattle.sl_code_instructions.specs.declared.kinds.Kinds.{Kinds}
 use Rattle.sl_code_semantics.specs.Kinds.{contains, is_register, with_register}

@@ -4,8 +4,8 @@ use Rattle.std.specs.Bool.{⊤}
 use Rattle.std.specs.Option.{ForSome}
 use Rattle.std.proofs.lemmas.Bool.{true≢false}
 use Rattle.std.proofs.lemmas.Option.{same_Some}
-use Rattle.sl_ratio.specs.declared.entry.Entry.{Entry}
-use Rattle.sl_stages.specs.returns.Election.{Election, lands_of, parties_of}
+use Rattle.sl_base_quotients.specs.declared.entry.Entry.{Entry}
+use Rattle.sl_law_meaning.specs.returns.Election.{Election, lands_of, parties_of}
 use Rattle.sl_code_instructions.specs.Codes.{CountingCode}
 use Rattle.sl_code_instructions.specs.declared.code.CodeStage.{CodeStage}
 use Rattle.sl_code_instructions.specs.declared.instr.Instr.{Instr}
@@ -21,13 +21,13 @@ use Rattle.sl_code_semantics.specs.Leaves.{with_ready}
 use Rattle.sl_code_semantics.specs.WellKinded.{context_of}
 use Rattle.sl_code_semantics.specs.State.{State, PriorityTable}
 use Rattle.sl_code_semantics.specs.Places.{at_entry}
-use Rattle.sl_prio.specs.Ranking.{without}
+use Rattle.sl_base_rankings.specs.Ranking.{without}
 use Rattle.sl_code_semantics.specs.Drawn.{lot_of}
 use Rattle.sl_code_semantics.specs.Effects.{Effect, Goes, counts_peers, takes, mark_of, name_of, with_lot}
 use Rattle.sl_code_semantics.specs.Safe.{entries_in}
 use Rattle.sl_code_semantics.specs.Agrees.{IsTable, HasTable}
-use Rattle.sl_prio.specs.Prio.{top, peers}
-use Rattle.sl_prio.specs.Lot.{drawn}
+use Rattle.sl_base_rankings.specs.Peers.{top, peers}
+use Rattle.sl_base_rankings.specs.Lot.{drawn}
 use Rattle.sl_code_semantics.proofs.soundness.Sets.{positive_written}
 use Rattle.sl_code_semantics.proofs.soundness.TableLemmas.{top_all, drawn_all, peers_some, without_all}
 use Rattle.sl_code_semantics.proofs.soundness.Keeping.{Keeps, Follows, keeps_registers, keeps_records, keeps_cursors, keeps_known, keeps_table, follows_given, get_some, IsSound}

@@ -5,15 +5,15 @@ use Rattle.std.specs.Option.{option_map_or}
 use Rattle.std.proofs.lemmas.Bool.{cases_lt}
 use Rattle.std.proofs.lemmas.List.Elements.{All-nil}
 use Rattle.std.proofs.lemmas.Option.{slice_get_within, none-some}
-use Rattle.sl_stages.specs.returns.Election.{Election, IsElection, lands_of, parties_of, wins_of, has_list}
+use Rattle.sl_law_meaning.specs.returns.Election.{Election, IsElection, lands_of, parties_of, wins_of, has_list}
 use Rattle.sl_code_instructions.specs.Codes.{CountingCode}
 use Rattle.sl_code_instructions.specs.declared.instr.Instr.{Instr}
 use Rattle.sl_code_instructions.specs.declared.instr.Instr.TheVariants as op
 use Rattle.sl_code_instructions.specs.declared.kinds.Kinds.{Kinds}
 use Rattle.sl_code_instructions.specs.declared.operand.Ranking.TheVariants as ranking
-use Rattle.sl_stages.specs.declared.table.Placed.TheVariants as placed
-use Rattle.sl_prio.specs.Prio.{top, is_covered}
-use Rattle.sl_prio.specs.Lot.{drawn}
+use Rattle.sl_law_meaning.specs.declared.table.Placed.TheVariants as placed
+use Rattle.sl_base_rankings.specs.Peers.{top, is_covered}
+use Rattle.sl_base_rankings.specs.Lot.{drawn}
 use Rattle.sl_code_semantics.specs.Kinds.{start_kinds, implies, party_cursor, land_cursor, win_cursor}
 use Rattle.sl_code_instructions.specs.Rows.{target_of}
 use Rattle.sl_code_semantics.specs.Leaves.{behind, carried}

@@ -7,14 +7,14 @@ use Rattle.std.specs.Ordering.{is_gt}
 use Rattle.std.proofs.lemmas.Bool.{cases_Bool}
 use Rattle.std.proofs.lemmas.List.Elements.{All-cons, All-nil, All-head, All-tail, All-contains, All-filter}
 use Rattle.std.proofs.lemmas.List.Sorted.{All-permutation}
-use Rattle.sl_ratio.specs.declared.entry.Entry.{Entry}
-use Rattle.sl_ratio.specs.Entry.{entry_cmp}
-use Rattle.sl_prio.specs.Ranking.{insert_ranked, ranked}
-use Rattle.sl_prio.specs.Prio.{top, peers, has_quotient_of}
-use Rattle.sl_prio.specs.Lot.{drawn}
-use Rattle.sl_prio.proofs.Rankings.{ranked-permutation}
-use Rattle.sl_prio.proofs.LawProofs.{tops, draws}
-use Rattle.sl_prio.specs.Ranking.{same_entry, without}
+use Rattle.sl_base_quotients.specs.declared.entry.Entry.{Entry}
+use Rattle.sl_base_quotients.specs.Entry.{entry_cmp}
+use Rattle.sl_base_rankings.specs.Ranking.{insert_ranked, ranked}
+use Rattle.sl_base_rankings.specs.Peers.{top, peers, has_quotient_of}
+use Rattle.sl_base_rankings.specs.Lot.{drawn}
+use Rattle.sl_base_rankings.proofs.Rankings.{ranked-permutation}
+use Rattle.sl_base_rankings.proofs.LawProofs.{tops, draws}
+use Rattle.sl_base_rankings.specs.Ranking.{same_entry, without}
 
 -- ---- entries that are put in and taken out
 module _ (P : Entry → Type 0) where

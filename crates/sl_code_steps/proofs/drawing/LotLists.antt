@@ -4,9 +4,9 @@ use Rattle.std.specs.Str.{bytes_eq}
 use Rattle.std.proofs.lemmas.Bool.{cases_Bool}
 use Rattle.std.proofs.lemmas.List.{take_more}
 use Rattle.std.proofs.lemmas.List.Elements.{filter_map-append, filter-append}
-use Rattle.sl_stages.specs.declared.returns.Lot.{Lot}
-use Rattle.sl_stages.specs.returns.Election.{Election}
-use Rattle.sl_stages.specs.meaning.Scopes.{place}
+use Rattle.sl_law_meaning.specs.declared.election.Lot.{Lot}
+use Rattle.sl_law_meaning.specs.returns.Election.{Election}
+use Rattle.sl_law_meaning.specs.meaning.Scopes.{place}
 use Rattle.sl_code_instructions.specs.declared.operand.Entries.{Entries}
 use Rattle.sl_code_instructions.specs.declared.operand.Entries.TheVariants as entries
 use Rattle.sl_code_semantics.specs.Drawn.{given_in}

@@ -4,17 +4,17 @@ use Rattle.std.specs.Option.{option_map, ForSome}
 use Rattle.std.proofs.lemmas.List.{length-take, length-drop, drop-drop, drop_more, map_more}
 use Rattle.std.proofs.lemmas.List.Sorted.{All-permutation, IsPermutation-sym}
 use Rattle.std.proofs.lemmas.Option.{same_Some}
-use Rattle.sl_ratio.specs.declared.entry.Entry.{Entry}
-use Rattle.sl_ratio.specs.Entry.{entry_cmp}
-use Rattle.sl_ratio.specs.Quotient.{FitsRatio}
-use Rattle.sl_prio.specs.Ranking.{ranked}
-use Rattle.sl_prio.specs.Prio.{top, peers}
-use Rattle.sl_prio.proofs.Fronts.{ranked_behind, peers_in_front}
-use Rattle.sl_prio.proofs.Greatest.{greatest-None}
-use Rattle.sl_prio.proofs.Orders.{entry_order}
-use Rattle.sl_prio.proofs.Rankings.{ranked-permutation}
-use Rattle.sl_stages.specs.declared.fault.Item.{Item}
-use Rattle.sl_stages.specs.returns.Election.{Election}
+use Rattle.sl_base_quotients.specs.declared.entry.Entry.{Entry}
+use Rattle.sl_base_quotients.specs.Entry.{entry_cmp}
+use Rattle.sl_base_quotients.specs.Quotient.{FitsRatio}
+use Rattle.sl_base_rankings.specs.Ranking.{ranked}
+use Rattle.sl_base_rankings.specs.Peers.{top, peers}
+use Rattle.sl_base_rankings.proofs.Fronts.{ranked_behind, peers_in_front}
+use Rattle.sl_base_rankings.proofs.Greatest.{greatest-None}
+use Rattle.sl_base_rankings.proofs.Orders.{entry_order}
+use Rattle.sl_base_rankings.proofs.Rankings.{ranked-permutation}
+use Rattle.sl_law_meaning.specs.declared.fault.Item.{Item}
+use Rattle.sl_law_meaning.specs.returns.Election.{Election}
 use Rattle.sl_code_steps.specs.declared.priority.TableKind.{TableKind}
 use Rattle.sl_code_semantics.specs.State.{PriorityTable}
 use Rattle.sl_code_semantics.specs.Places.{item_of}

@@ -5,7 +5,7 @@ use Rattle.std.proofs.lemmas.Bool.Decides.{nat_tests}
 use Rattle.std.proofs.lemmas.List.{get_or_past}
 use Rattle.std.proofs.lemmas.List.FromFn.{get_or-map-range_with_len, length-map-range_with_len}
 use Rattle.std.proofs.lemmas.Bool.{cases_Bool, ltb-true, ltb-false}
-use Rattle.sl_stages.specs.returns.Election.{Election, IsElection}
+use Rattle.sl_law_meaning.specs.returns.Election.{Election, IsElection}
 use Rattle.sl_code_instructions.specs.declared.operand.Input.{Input}
 use Rattle.sl_code_instructions.specs.declared.operand.Input.TheVariants as input
 use Rattle.sl_code_semantics.specs.Needs.{input_shape}

@@ -1,6 +1,6 @@
 -- How a value of `CellCursors` keeps its cells.
 use Rattle.std.specs.Prelude.{◌≡◌, ℕ, ◌+◌, ◌*◌, ◌<◌, ◌≤◌, Some, None, slice_index, if◌then◌else◌}
-use Rattle.sl_ratio.specs.declared.limits.TheConstants.{MAX_LANDS, MAX_PARTIES}
+use Rattle.sl_base_quotients.specs.declared.limits.TheConstants.{MAX_LANDS, MAX_PARTIES}
 use Rattle.sl_base_terms.specs.Shapes.{shape_number}
 use Rattle.sl_base_terms.specs.declared.shape.Shape.{Shape}
 use Rattle.sl_base_terms.specs.declared.shape.Shape.TheVariants as shape

@@ -1,7 +1,7 @@
 -- How the machine's store stands for a state.
 use Rattle.std.specs.Prelude.{◌≡◌, ℕ, List, [], length, map, slice_index, slice_index_or}
-use Rattle.sl_stages.specs.declared.table.Placed.TheVariants as placed
-use Rattle.sl_stages.specs.returns.Election.{Election, parties_of, wins_of}
+use Rattle.sl_law_meaning.specs.declared.table.Placed.TheVariants as placed
+use Rattle.sl_law_meaning.specs.returns.Election.{Election, parties_of, wins_of}
 use Rattle.sl_code_instructions.specs.Codes.{CountingCode}
 use Rattle.sl_code_steps.specs.declared.step.End.{End as Answer}
 use Rattle.sl_code_steps.specs.declared.step.End.TheVariants as end

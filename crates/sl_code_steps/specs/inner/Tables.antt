@@ -1,11 +1,11 @@
 -- How a value of `PriorityTable` keeps the priority table.
 use Rattle.std.specs.Prelude.{◌≤◌, ◌^◌, Option, All, slice_get}
 use Rattle.std.specs.Option.{option_map, ForSome}
-use Rattle.sl_ratio.specs.Quotient.{Quotient}
+use Rattle.sl_base_quotients.specs.Quotient.{Quotient}
 use Rattle.sl_code_instructions.specs.declared.operand.Ranking.{Ranking}
 use Rattle.sl_code_instructions.specs.declared.operand.Ranking.TheVariants as ranking
-use Rattle.sl_prio.specs.Prio.{peers}
-use Rattle.sl_prio.specs.Ranking.{ranked}
+use Rattle.sl_base_rankings.specs.Peers.{peers}
+use Rattle.sl_base_rankings.specs.Ranking.{ranked}
 use Rattle.sl_prio.specs.inner.Marks.{IsPassed}
 use Rattle.sl_code_steps.specs.declared.priority.PriorityTable.TheInside.{Inside}
 use Rattle.sl_code_semantics.specs.State.{PriorityTable}

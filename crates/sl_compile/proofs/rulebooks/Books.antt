@@ -1,10 +1,10 @@
 -- The code of a typed book within the limits counts as the book means.
 use Rattle.std.proofs.Common.{◌≡◌, ◌↔◌, List, [], ◌∷◌, ◌++◌, length, refl, sym, subst, ◌∙◌}
-use Rattle.sl_stages.specs.declared.book.Cond.{Cond}
-use Rattle.sl_stages.specs.book.Trees.{BookTree}
-use Rattle.sl_stages.specs.book.Typing.{columns_of}
-use Rattle.sl_stages.specs.returns.Election.{Election, IsElection}
-use Rattle.sl_stages.specs.meaning.Means.{Means}
+use Rattle.sl_law_meaning.specs.declared.book.Cond.{Cond}
+use Rattle.sl_law_meaning.specs.book.Trees.{BookTree}
+use Rattle.sl_law_meaning.specs.book.Typing.{columns_of}
+use Rattle.sl_law_meaning.specs.returns.Election.{Election, IsElection}
+use Rattle.sl_law_meaning.specs.meaning.Means.{Means}
 use Rattle.sl_code_semantics.specs.State.{End, Halted}
 use Rattle.sl_code_semantics.specs.Runs.{Ending, Ended, budget_of}
 use Rattle.sl_compile_pieces.specs.exprs.Slots.{HasBookSlots}

@@ -4,25 +4,25 @@ use Rattle.std.specs.Prelude.{nat_le}
 use Rattle.std.specs.List.{list_all}
 use Rattle.std.proofs.lemmas.Bool.{and_parts, leb-true}
 use Rattle.std.proofs.lemmas.Nat.{mul-le}
-use Rattle.sl_ratio.specs.declared.method.Method.{Method}
-use Rattle.sl_ratio.specs.declared.method.Method.TheVariants as by
-use Rattle.sl_stages.specs.declared.fact.Fact.{Fact}
-use Rattle.sl_stages.specs.declared.fact.TheConstants.{FACTS}
-use Rattle.sl_stages.specs.declared.book.Pairing.TheVariants as pairings
-use Rattle.sl_stages.specs.declared.book.Cond.{Cond}
-use Rattle.sl_stages.specs.declared.book.LastClause.{LastClause}
-use Rattle.sl_stages.specs.declared.book.Majority.{Majority}
-use Rattle.sl_stages.specs.declared.book.Seating.{Seating}
-use Rattle.sl_stages.specs.declared.book.Seating.TheVariants as seating
+use Rattle.sl_base_quotients.specs.declared.method.Method.{Method}
+use Rattle.sl_base_quotients.specs.declared.method.Method.TheVariants as by
+use Rattle.sl_law_meaning.specs.declared.fact.Fact.{Fact}
+use Rattle.sl_law_meaning.specs.declared.fact.TheConstants.{FACTS}
+use Rattle.sl_law_meaning.specs.declared.book.Pairing.TheVariants as pairings
+use Rattle.sl_law_meaning.specs.declared.book.Cond.{Cond}
+use Rattle.sl_law_meaning.specs.declared.book.LastClause.{LastClause}
+use Rattle.sl_law_meaning.specs.declared.book.Majority.{Majority}
+use Rattle.sl_law_meaning.specs.declared.book.Seating.{Seating}
+use Rattle.sl_law_meaning.specs.declared.book.Seating.TheVariants as seating
 use Rattle.sl_base_terms.specs.declared.shape.Shape.{Shape}
 use Rattle.sl_base_terms.specs.declared.shape.Shape.TheVariants as shape
-use Rattle.sl_stages.specs.declared.check_fault.CheckFault.TheVariants as fault
-use Rattle.sl_stages.specs.declared.limits.TheConstants.{MAX_DEPTH, MAX_PARTS}
+use Rattle.sl_law_meaning.specs.declared.check_fault.CheckFault.TheVariants as fault
+use Rattle.sl_law_meaning.specs.declared.limits.TheConstants.{MAX_DEPTH, MAX_PARTS}
 use Rattle.sl_base_terms.specs.declared.limits.TheConstants.{MAX_STAGES}
 use Rattle.sl_base_terms.specs.Tests.{test, first_failing}
-use Rattle.sl_stages.specs.book.Trees.{ExprTree, fact as of_returns, name, sum, pair, split, without, atleast, grow, StageTree, BookTree}
-use Rattle.sl_stages.specs.book.Limits.{depth_of, parts_of, is_within_stage}
-use Rattle.sl_stages.specs.book.Typing.{Column, splits_in, is_seat_number, expr_tests, stage_column, columns_of, stages_tests, version_tests, condition_tests, base_tests, tests_of, is_typed}
+use Rattle.sl_law_meaning.specs.book.Trees.{ExprTree, fact as of_returns, name, sum, pair, split, without, atleast, grow, StageTree, BookTree}
+use Rattle.sl_law_meaning.specs.book.Limits.{depth_of, parts_of, is_within_stage}
+use Rattle.sl_law_meaning.specs.book.Typing.{Column, splits_in, is_seat_number, expr_tests, stage_column, columns_of, stages_tests, version_tests, condition_tests, base_tests, tests_of, is_typed}
 use Rattle.sl_base_terms.proofs.Tests.{no_fault, pass_parts, head_holds}
 use Rattle.sl_code_instructions.specs.declared.instr.Instr.TheVariants.{Zero, Input}
 use Rattle.sl_code_instructions.specs.declared.operand.Input.TheVariants as input

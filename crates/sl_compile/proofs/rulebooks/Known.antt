@@ -1,14 +1,14 @@
 -- What is known after the stages of a rulebook: as many columns as stages, under their names, and of the types that the book gives them.
 use Rattle.std.proofs.Common.{◌≡◌, ℕ, ◌+◌, List, [], ◌∷◌, ◌++◌, length, map, sym, ap, ◌∙◌, append-nil, append_assoc, length-append, arith}
 use Rattle.std.proofs.lemmas.List.{length-map, map-append}
-use Rattle.sl_stages.specs.declared.fault.LegalFault.{LegalFault}
-use Rattle.sl_stages.specs.book.Trees.{StageTree, BookTree}
-use Rattle.sl_stages.specs.book.Typing.{Column, stage_column, columns_of}
-use Rattle.sl_stages.specs.returns.Election.{Election}
-use Rattle.sl_stages.specs.meaning.Columns.{NamedColumn}
-use Rattle.sl_stages.specs.meaning.Records.{Records}
-use Rattle.sl_stages.specs.meaning.Results.{ExprResult, Column as Values, Fault}
-use Rattle.sl_stages.specs.meaning.Means.{Known, Through, Stopped, nothing_known, with_stage, GoesOn, StagesMean}
+use Rattle.sl_law_meaning.specs.declared.fault.LegalFault.{LegalFault}
+use Rattle.sl_law_meaning.specs.book.Trees.{StageTree, BookTree}
+use Rattle.sl_law_meaning.specs.book.Typing.{Column, stage_column, columns_of}
+use Rattle.sl_law_meaning.specs.returns.Election.{Election}
+use Rattle.sl_law_meaning.specs.meaning.Columns.{NamedColumn}
+use Rattle.sl_law_meaning.specs.meaning.Records.{Records}
+use Rattle.sl_law_meaning.specs.meaning.Results.{ExprResult, Column as Values, Fault}
+use Rattle.sl_law_meaning.specs.meaning.Means.{Known, Through, Stopped, nothing_known, with_stage, GoesOn, StagesMean}
 
 -- the types after some stages are as many as those before and the stages
 length-columns_of : (types : List Column) (ss : List StageTree) → length (columns_of types ss) ≡ length types + length ss

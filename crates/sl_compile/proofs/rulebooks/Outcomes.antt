@@ -3,27 +3,27 @@ use Rattle.std.proofs.Common.{◌≡◌, ◌↔◌, ℕ, ◌≤◌, true, List, 
 use Rattle.std.proofs.lemmas.List.Sorted.{IsPermutation-refl}
 use Rattle.std.proofs.lemmas.Option.{slice_get_within, slice_get_cases, get_or_from_slice_get}
 use Rattle.std.proofs.lemmas.Slice.Zip.{AllZip-long}
-use Rattle.sl_stages.specs.declared.book.Seating.{Seating}
-use Rattle.sl_stages.specs.declared.book.Seating.TheVariants as seating
+use Rattle.sl_law_meaning.specs.declared.book.Seating.{Seating}
+use Rattle.sl_law_meaning.specs.declared.book.Seating.TheVariants as seating
 use Rattle.sl_base_terms.specs.declared.shape.Shape.{Shape}
 use Rattle.sl_base_terms.specs.declared.shape.Shape.TheVariants as shape
-use Rattle.sl_stages.specs.declared.fault.LegalFault.{LegalFault}
-use Rattle.sl_stages.specs.declared.table.Outcome.{Outcome}
-use Rattle.sl_stages.specs.declared.table.Outcome.TheVariants as outcome
-use Rattle.sl_stages.specs.declared.table.SeatStep.{SeatStep}
-use Rattle.sl_stages.specs.declared.table.Weight.{Weight}
-use Rattle.sl_stages.specs.book.Trees.{BookTree}
-use Rattle.sl_stages.specs.book.Typing.{Column, columns_of, is_typed}
-use Rattle.sl_stages.specs.returns.Election.{Election, IsElection}
-use Rattle.sl_stages.specs.returns.Facts.{lists_of, is_eligible}
-use Rattle.sl_stages.specs.meaning.Columns.{NamedColumn}
-use Rattle.sl_stages.specs.meaning.Records.{Records}
-use Rattle.sl_stages.specs.meaning.Seating.{keep_table, cover_table, tie_of}
-use Rattle.sl_stages.specs.meaning.Tables.{SeatTable}
-use Rattle.sl_stages.specs.meaning.Means.{Through, IsSeated, IsOutcome, Means}
-use Rattle.sl_stages.specs.laws.ColumnLaws.{IsTypedAs}
-use Rattle.sl_stages.proofs.meaning.MeaningProofs.{same_itself, at_most_one_outcome, any_order}
-use Rattle.sl_stages.proofs.meaning.RecordsOnce.{records_once}
+use Rattle.sl_law_meaning.specs.declared.fault.LegalFault.{LegalFault}
+use Rattle.sl_law_meaning.specs.declared.table.Outcome.{Outcome}
+use Rattle.sl_law_meaning.specs.declared.table.Outcome.TheVariants as outcome
+use Rattle.sl_law_meaning.specs.declared.table.SeatStep.{SeatStep}
+use Rattle.sl_law_meaning.specs.declared.table.Weight.{Weight}
+use Rattle.sl_law_meaning.specs.book.Trees.{BookTree}
+use Rattle.sl_law_meaning.specs.book.Typing.{Column, columns_of, is_typed}
+use Rattle.sl_law_meaning.specs.returns.Election.{Election, IsElection}
+use Rattle.sl_law_meaning.specs.returns.Facts.{lists_of, is_eligible}
+use Rattle.sl_law_meaning.specs.meaning.Columns.{NamedColumn}
+use Rattle.sl_law_meaning.specs.meaning.Records.{Records}
+use Rattle.sl_law_meaning.specs.meaning.Seating.{keep_table, cover_table, tie_of}
+use Rattle.sl_law_meaning.specs.meaning.Tables.{SeatTable}
+use Rattle.sl_law_meaning.specs.meaning.Means.{Through, IsSeated, IsOutcome, Means}
+use Rattle.sl_law_meaning.specs.laws.ColumnLaws.{IsTypedAs}
+use Rattle.sl_law_meaning.proofs.meaning.MeaningProofs.{same_itself, at_most_one_outcome, any_order}
+use Rattle.sl_law_meaning.proofs.meaning.RecordsOnce.{records_once}
 use Rattle.sl_code_instructions.specs.declared.code.CodeStage.{CodeStage}
 use Rattle.sl_code_instructions.specs.Codes.{CountingCode}
 use Rattle.sl_code_semantics.specs.State.{State, End, Halted, Faulted}

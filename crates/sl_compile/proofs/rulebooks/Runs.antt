@@ -1,18 +1,18 @@
 -- From the start on, all plans of a book yield the table that the book means, or end the run with the fault that it means.
 use Rattle.std.proofs.Common.{◌≡◌, true, List, [], ◌++◌, None, length, refl, sym, subst, ◌∙◌, arith}
 use Rattle.std.specs.List.{list_all}
-use Rattle.sl_stages.specs.declared.book.Cond.{Cond}
+use Rattle.sl_law_meaning.specs.declared.book.Cond.{Cond}
 use Rattle.sl_base_terms.specs.declared.shape.Shape.TheVariants as shape
-use Rattle.sl_stages.specs.declared.fault.LegalFault.{LegalFault}
-use Rattle.sl_stages.specs.declared.table.Outcome.TheVariants as outcome
+use Rattle.sl_law_meaning.specs.declared.fault.LegalFault.{LegalFault}
+use Rattle.sl_law_meaning.specs.declared.table.Outcome.TheVariants as outcome
 use Rattle.sl_base_terms.specs.Tests.{first_failing}
-use Rattle.sl_stages.specs.book.Trees.{BookTree}
-use Rattle.sl_stages.specs.book.Limits.{is_within_stage}
-use Rattle.sl_stages.specs.book.Typing.{Column, columns_of, stages_tests, base_tests, tests_of, is_typed}
-use Rattle.sl_stages.specs.returns.Election.{Election, IsElection}
-use Rattle.sl_stages.specs.meaning.Means.{Known, Through, Stopped, nothing_known, StagesMean, IsOutcome}
+use Rattle.sl_law_meaning.specs.book.Trees.{BookTree}
+use Rattle.sl_law_meaning.specs.book.Limits.{is_within_stage}
+use Rattle.sl_law_meaning.specs.book.Typing.{Column, columns_of, stages_tests, base_tests, tests_of, is_typed}
+use Rattle.sl_law_meaning.specs.returns.Election.{Election, IsElection}
+use Rattle.sl_law_meaning.specs.meaning.Means.{Known, Through, Stopped, nothing_known, StagesMean, IsOutcome}
 use Rattle.sl_base_terms.proofs.Tests.{no_fault}
-use Rattle.sl_stages.proofs.meaning.OneOutcome.{typed_parts}
+use Rattle.sl_law_meaning.proofs.meaning.OneOutcome.{typed_parts}
 use Rattle.sl_code_instructions.specs.Codes.{CountingCode}
 use Rattle.sl_code_semantics.specs.State.{State, End, Faulted, start}
 use Rattle.sl_compile_plans.specs.Trees.{Tree}

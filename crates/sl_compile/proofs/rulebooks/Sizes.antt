@@ -3,11 +3,11 @@ use Rattle.std.proofs.Common.{◌≡◌, ℕ, ◌+◌, ◌*◌, ◌≤◌, true,
 use Rattle.std.specs.Prelude.{nat_le}
 use Rattle.std.specs.List.{list_all}
 use Rattle.std.proofs.lemmas.Bool.{and_parts, leb-true}
-use Rattle.sl_stages.specs.declared.limits.TheConstants.{MAX_PARTS}
+use Rattle.sl_law_meaning.specs.declared.limits.TheConstants.{MAX_PARTS}
 use Rattle.sl_base_terms.specs.declared.limits.TheConstants.{MAX_STAGES}
-use Rattle.sl_stages.specs.book.Limits.{is_within_stage, is_within_limits}
-use Rattle.sl_stages.specs.declared.book.Cond.{Cond}
-use Rattle.sl_stages.specs.book.Trees.{StageTree, BookTree}
+use Rattle.sl_law_meaning.specs.book.Limits.{is_within_stage, is_within_limits}
+use Rattle.sl_law_meaning.specs.declared.book.Cond.{Cond}
+use Rattle.sl_law_meaning.specs.book.Trees.{StageTree, BookTree}
 use Rattle.sl_compile_plans.specs.Trees.{Tree, size_of}
 use Rattle.sl_compile_plans.specs.Laid.{size_all}
 use Rattle.sl_compile_pieces.specs.closing.Trees.{halting}

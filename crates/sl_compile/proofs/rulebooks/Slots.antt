@@ -4,15 +4,15 @@ use Rattle.std.specs.List.{range_with_len, list_all}
 use Rattle.std.proofs.lemmas.Bool.{and_parts}
 use Rattle.std.proofs.lemmas.List.{append-nil, map-append}
 use Rattle.std.proofs.lemmas.Option.{none-some, same_Some, slice_get-map}
-use Rattle.sl_stages.specs.declared.fact.Fact.{Fact}
-use Rattle.sl_stages.specs.declared.fact.Fact.TheVariants as facts
+use Rattle.sl_law_meaning.specs.declared.fact.Fact.{Fact}
+use Rattle.sl_law_meaning.specs.declared.fact.Fact.TheVariants as facts
 use Rattle.sl_base_terms.specs.declared.shape.Shape.{Shape}
 use Rattle.sl_base_terms.specs.declared.shape.Shape.TheVariants as shape
-use Rattle.sl_stages.specs.declared.limits.TheConstants.{MAX_DEPTH}
+use Rattle.sl_law_meaning.specs.declared.limits.TheConstants.{MAX_DEPTH}
 use Rattle.sl_base_terms.specs.declared.limits.TheConstants.{MAX_STAGES}
-use Rattle.sl_stages.specs.book.Trees.{StageTree, BookTree}
-use Rattle.sl_stages.specs.book.Limits.{is_within_stage, is_within_limits}
-use Rattle.sl_stages.specs.book.Typing.{Column, columns_of, fact_type}
+use Rattle.sl_law_meaning.specs.book.Trees.{StageTree, BookTree}
+use Rattle.sl_law_meaning.specs.book.Limits.{is_within_stage, is_within_limits}
+use Rattle.sl_law_meaning.specs.book.Typing.{Column, columns_of, fact_type}
 use Rattle.sl_base_terms.specs.Shapes.{shape_number}
 use Rattle.sl_code_instructions.specs.declared.code.CodeStage.{CodeStage}
 use Rattle.sl_code_instructions.specs.declared.instr.Instr.{Instr}

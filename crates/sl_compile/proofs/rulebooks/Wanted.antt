@@ -1,8 +1,8 @@
 -- What the proofs of compiled books take from the proofs of their costs.
 use Rattle.std.proofs.Common.{◌+◌, ◌≤◌, List, length}
-use Rattle.sl_stages.specs.declared.book.Cond.{Cond}
-use Rattle.sl_stages.specs.book.Trees.{BookTree}
-use Rattle.sl_stages.specs.returns.Election.{Election}
+use Rattle.sl_law_meaning.specs.declared.book.Cond.{Cond}
+use Rattle.sl_law_meaning.specs.book.Trees.{BookTree}
+use Rattle.sl_law_meaning.specs.returns.Election.{Election}
 use Rattle.sl_code_semantics.specs.Runs.{budget_of}
 use Rattle.sl_compile_plans.specs.Laid.{cost_all}
 use Rattle.sl_compile.specs.Codes.{book_pieces}

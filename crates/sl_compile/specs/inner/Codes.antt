@@ -1,7 +1,7 @@
 -- The code of a book, as the compiler makes it.
 use Rattle.std.specs.Prelude.{◌≡◌, List}
-use Rattle.sl_stages.specs.declared.book.Cond.{Cond}
-use Rattle.sl_stages.specs.book.Trees.{BookTree}
+use Rattle.sl_law_meaning.specs.declared.book.Cond.{Cond}
+use Rattle.sl_law_meaning.specs.book.Trees.{BookTree}
 use Rattle.sl_code_instructions.specs.declared.instr.Instr.{Instr}
 use Rattle.sl_code_instructions.specs.Codes.{CountingCode}
 use Rattle.sl_compile.specs.Conditions.{SayTheSame}

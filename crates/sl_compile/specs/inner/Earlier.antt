@@ -1,16 +1,16 @@
 -- The columns that earlier stages have, and what is asked of an expression that is laid out after them.
 use Rattle.std.specs.Prelude.{◌≡◌, ℕ, ◌+◌, ◌≤◌, true, List, [], ◌∷◌, None}
-use Rattle.sl_ratio.specs.declared.method.Divisor.{Divisor}
-use Rattle.sl_ratio.specs.declared.method.Method.{Method}
-use Rattle.sl_ratio.specs.declared.method.Method.TheVariants as by
-use Rattle.sl_ratio.specs.declared.limits.TheConstants.{MAX_SEATS}
-use Rattle.sl_stages.specs.declared.book.Stage.{Stage}
+use Rattle.sl_base_quotients.specs.declared.method.Divisor.{Divisor}
+use Rattle.sl_base_quotients.specs.declared.method.Method.{Method}
+use Rattle.sl_base_quotients.specs.declared.method.Method.TheVariants as by
+use Rattle.sl_base_quotients.specs.declared.limits.TheConstants.{MAX_SEATS}
+use Rattle.sl_law_meaning.specs.declared.book.Stage.{Stage}
 use Rattle.sl_base_terms.specs.declared.shape.Shape.TheVariants as shape
-use Rattle.sl_stages.specs.declared.book.ColumnType.{ColumnType}
-use Rattle.sl_stages.specs.book.Trees.{ExprTree}
+use Rattle.sl_law_meaning.specs.declared.book.ColumnType.{ColumnType}
+use Rattle.sl_law_meaning.specs.book.Trees.{ExprTree}
 use Rattle.sl_base_terms.specs.Tests.{first_failing}
-use Rattle.sl_stages.specs.book.Limits.{depth_of}
-use Rattle.sl_stages.specs.book.Typing.{Column, type_of, expr_tests, splits_in, can_split}
+use Rattle.sl_law_meaning.specs.book.Limits.{depth_of}
+use Rattle.sl_law_meaning.specs.book.Typing.{Column, type_of, expr_tests, splits_in, can_split}
 use Rattle.sl_compile_pieces.specs.declared.slots.TheConstants.{LEVELS}
 
 -- each stage's name with its type

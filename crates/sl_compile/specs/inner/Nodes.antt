@@ -1,11 +1,11 @@
 -- Splits and growths as the compiler lays them out.
 use Rattle.std.specs.Prelude.{◌≡◌, ℕ, ◌+◌, ◌≤◌, [], Option, Some, slice_get}
-use Rattle.sl_ratio.specs.declared.method.Method.{Method}
-use Rattle.sl_ratio.specs.declared.method.Method.TheVariants as by
+use Rattle.sl_base_quotients.specs.declared.method.Method.{Method}
+use Rattle.sl_base_quotients.specs.declared.method.Method.TheVariants as by
 use Rattle.sl_base_terms.specs.declared.shape.Shape.{Shape}
 use Rattle.sl_base_terms.specs.declared.shape.Shape.TheVariants as shape
 use Rattle.sl_code_instructions.specs.Codes.{CountingCode}
-use Rattle.sl_stages.specs.declared.limits.TheConstants.{MAX_DEPTH}
+use Rattle.sl_law_meaning.specs.declared.limits.TheConstants.{MAX_DEPTH}
 use Rattle.sl_compile_pieces.specs.declared.arguments.Arguments.{Arguments}
 use Rattle.sl_compile_pieces.specs.exprs.Slots.{StandsOn}
 use Rattle.sl_compile.specs.Codes.{HasSoFar}

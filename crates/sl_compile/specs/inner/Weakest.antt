@@ -1,10 +1,10 @@
 -- Few conditions: those that the compiler lays out.
 use Rattle.std.specs.Prelude.{ℕ, ◌<◌, ◌≤◌, ◌^◌, Bool, Option, None, Some}
-use Rattle.sl_stages.specs.declared.book.Cond.{Cond}
-use Rattle.sl_stages.specs.declared.book.Cond.TheVariants as condition
-use Rattle.sl_stages.specs.declared.limits.TheConstants.{MAX_PER}
-use Rattle.sl_stages.specs.returns.Election.{Election}
-use Rattle.sl_stages.specs.returns.Facts.{meets}
+use Rattle.sl_law_meaning.specs.declared.book.Cond.{Cond}
+use Rattle.sl_law_meaning.specs.declared.book.Cond.TheVariants as condition
+use Rattle.sl_law_meaning.specs.declared.limits.TheConstants.{MAX_PER}
+use Rattle.sl_law_meaning.specs.returns.Election.{Election}
+use Rattle.sl_law_meaning.specs.returns.Facts.{meets}
 use Rattle.sl_blocks.specs.declared.easiest.Share.{Share}
 use Rattle.sl_blocks.specs.inner.Few.{share_condition}
 

@@ -7,22 +7,22 @@ use Rattle.std.proofs.lemmas.Bool.{cases_lt}
 use Rattle.std.proofs.lemmas.List.Kept.{AllPairs-from_increasing}
 use Rattle.std.proofs.lemmas.List.Sorted.{Contains-permutation, IsPermutation-append_comm, IsPermutation-sym}
 use Rattle.std.proofs.lemmas.Option.{none-some, same_Some}
-use Rattle.sl_ratio.specs.declared.entry.Entry.{Entry}
-use Rattle.sl_stages.specs.methods.Ties.{Lists, NamesAll}
-use Rattle.sl_stages.specs.methods.Ties as meaning
-use Rattle.sl_stages.specs.laws.Awards.{DrawsNext}
-use Rattle.sl_stages.specs.laws.Ladders.{Has, IsPeer, RaisesEach}
-use Rattle.sl_stages.specs.laws.Walks.{MidBatch}
-use Rattle.sl_stages.proofs.methods.DrawnLots.{drawn_only, drawn_distinct, drawn_length}
-use Rattle.sl_stages.proofs.methods.LadderProofs.{batches}
-use Rattle.sl_stages.proofs.methods.RaisedSeats.{increasing_distinct}
-use Rattle.sl_stages.proofs.methods.WalkProofs.{walks}
-use Rattle.sl_prio.specs.Ranking.{ranked}
-use Rattle.sl_prio.specs.Prio.{peers}
-use Rattle.sl_prio.specs.Lot.{lot_cmp}
-use Rattle.sl_prio.specs.Lot as machine
-use Rattle.sl_prio.proofs.Finding.{Contains-none, Contains-cases, Contains-head, Contains-tail}
-use Rattle.sl_prio.proofs.LawProofs.{draws}
+use Rattle.sl_base_quotients.specs.declared.entry.Entry.{Entry}
+use Rattle.sl_law_meaning.specs.methods.Ties.{Lists, NamesAll}
+use Rattle.sl_law_meaning.specs.methods.Ties as meaning
+use Rattle.sl_law_meaning.specs.laws.Awards.{DrawsNext}
+use Rattle.sl_law_meaning.specs.laws.Ladders.{Has, IsPeer, RaisesEach}
+use Rattle.sl_law_meaning.specs.laws.Walks.{MidBatch}
+use Rattle.sl_law_meaning.proofs.methods.DrawnLots.{drawn_only, drawn_distinct, drawn_length}
+use Rattle.sl_law_meaning.proofs.methods.LadderProofs.{batches}
+use Rattle.sl_law_meaning.proofs.methods.RaisedSeats.{increasing_distinct}
+use Rattle.sl_law_meaning.proofs.methods.WalkProofs.{walks}
+use Rattle.sl_base_rankings.specs.Ranking.{ranked}
+use Rattle.sl_base_rankings.specs.Peers.{peers}
+use Rattle.sl_base_rankings.specs.Lot.{lot_cmp}
+use Rattle.sl_base_rankings.specs.Lot as machine
+use Rattle.sl_base_rankings.proofs.Finding.{Contains-none, Contains-cases, Contains-head, Contains-tail}
+use Rattle.sl_base_rankings.proofs.LawProofs.{draws}
 use Rattle.sl_code_semantics.specs.SameLots.{SameLot, PeersAre}
 use Rattle.sl_code_semantics.proofs.drawing.LotDraws.{same_covers, same_draws}
 use Rattle.sl_compile_pieces.specs.arenas.Arenas.{Arena, IsArena, waiting}

@@ -9,23 +9,23 @@ use Rattle.std.proofs.lemmas.List.{length-map, get_or-map}
 use Rattle.std.proofs.lemmas.List.Elements.{All-cons, All-nil, All-head, All-tail, All-weaker, All-map, All-filter, All-get_or}
 use Rattle.std.proofs.lemmas.List.FromFn.{length-enumerate_from, get_or-enumerate_from}
 use Rattle.std.proofs.lemmas.List.Kept.{AllPairs-filter}
-use Rattle.sl_ratio.specs.declared.limits.TheConstants.{MAX_WEIGHT, MAX_SEATS, MAX_VOTES}
-use Rattle.sl_ratio.specs.declared.method.Divisor.{Divisor}
-use Rattle.sl_ratio.specs.Quotient.{FitsRatio}
-use Rattle.sl_ratio.specs.inner.QuotientLaws.{quotient_fits}
-use Rattle.sl_stages.specs.declared.returns.Win.{Win}
-use Rattle.sl_stages.specs.declared.table.Mark.TheVariants as mark
-use Rattle.sl_stages.specs.returns.Election.{IsWin}
-use Rattle.sl_stages.specs.returns.Facts.{has_eligible_list, is_in, is_of}
-use Rattle.sl_stages.specs.meaning.Seating.{winners_of}
-use Rattle.sl_stages.specs.methods.Field.{InField, no_minima}
-use Rattle.sl_stages.specs.methods.Hamilton.{remainder, is_leading, whole}
-use Rattle.sl_stages.specs.methods.LeastHouse.{outside_minima}
-use Rattle.sl_stages.proofs.methods.CoveringProofs.{covering_ladders_law}
-use Rattle.sl_stages.proofs.methods.DivisorProofs.{divisor_ladders_law, in_range, field_of}
-use Rattle.sl_stages.proofs.methods.HouseProofs.{growth_batches}
-use Rattle.sl_stages.proofs.methods.HamiltonProofs.{hamilton_ladders_law}
-use Rattle.sl_stages.proofs.methods.SeatSums.{length_zeros}
+use Rattle.sl_base_quotients.specs.declared.limits.TheConstants.{MAX_WEIGHT, MAX_SEATS, MAX_VOTES}
+use Rattle.sl_base_quotients.specs.declared.method.Divisor.{Divisor}
+use Rattle.sl_base_quotients.specs.Quotient.{FitsRatio}
+use Rattle.sl_base_quotients.specs.inner.QuotientLaws.{quotient_fits}
+use Rattle.sl_law_meaning.specs.declared.election.Win.{Win}
+use Rattle.sl_law_meaning.specs.declared.table.Mark.TheVariants as mark
+use Rattle.sl_law_meaning.specs.returns.Election.{IsWin}
+use Rattle.sl_law_meaning.specs.returns.Facts.{has_eligible_list, is_in, is_of}
+use Rattle.sl_law_meaning.specs.meaning.Seating.{winners_of}
+use Rattle.sl_law_meaning.specs.methods.Field.{InField, no_minima}
+use Rattle.sl_law_meaning.specs.methods.Hamilton.{remainder, is_leading, whole}
+use Rattle.sl_law_meaning.specs.methods.LeastHouse.{outside_minima}
+use Rattle.sl_law_meaning.proofs.methods.CoveringProofs.{covering_ladders_law}
+use Rattle.sl_law_meaning.proofs.methods.DivisorProofs.{divisor_ladders_law, in_range, field_of}
+use Rattle.sl_law_meaning.proofs.methods.HouseProofs.{growth_batches}
+use Rattle.sl_law_meaning.proofs.methods.HamiltonProofs.{hamilton_ladders_law}
+use Rattle.sl_law_meaning.proofs.methods.SeatSums.{length_zeros}
 use Rattle.sl_code_instructions.specs.declared.operand.Entries.{Entries}
 use Rattle.sl_code_instructions.specs.declared.operand.Ranking.TheVariants as ranking
 use Rattle.sl_code_semantics.specs.Effects.{mark_of}

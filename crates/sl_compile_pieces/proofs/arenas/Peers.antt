@@ -13,22 +13,22 @@ use Rattle.std.proofs.lemmas.Option.{slice_get-map}
 use Rattle.std.proofs.lemmas.List.{length-map, get_or-map}
 use Rattle.std.proofs.lemmas.List.Elements.{Contains-get_or}
 use Rattle.std.proofs.lemmas.List.Kept.{AllPairs-from_increasing, IsStrictlyIncreasing-filter}
-use Rattle.sl_ratio.specs.declared.entry.Entry.{Entry}
-use Rattle.sl_ratio.specs.Quotient.{Quotient, AtMost, SameQuotient, compare}
-use Rattle.sl_ratio.specs.Entry.{quotient_cmp, entry_cmp}
-use Rattle.sl_ratio.specs.inner.EntryLaws.{quotient_cmp-positive}
-use Rattle.sl_stages.specs.methods.Ties.{Lists}
-use Rattle.sl_stages.specs.laws.Ladders.{IsPeer}
-use Rattle.sl_ratio.proofs.Order.{AtMost-trans}
-use Rattle.sl_stages.proofs.methods.DrawnLots.{same_entries}
-use Rattle.sl_prio.specs.Ranking.{ranked}
-use Rattle.sl_prio.specs.Prio.{top, peers, has_quotient_of}
-use Rattle.sl_prio.proofs.Finding.{All-at, Contains-none, Contains-head, Contains-filter, filter-Contains}
-use Rattle.sl_prio.proofs.Fronts.{HasRatio, quotient_at_most}
-use Rattle.sl_prio.proofs.LawProofs.{order_is_free, first_peers, tops}
-use Rattle.sl_prio.proofs.RankedEntries.{falling_rankings}
-use Rattle.sl_prio.proofs.Rankings.{ranked-permutation}
-use Rattle.sl_prio.proofs.Tables.{peers-at_top}
+use Rattle.sl_base_quotients.specs.declared.entry.Entry.{Entry}
+use Rattle.sl_base_quotients.specs.Quotient.{Quotient, AtMost, SameQuotient, compare}
+use Rattle.sl_base_quotients.specs.Entry.{quotient_cmp, entry_cmp}
+use Rattle.sl_base_quotients.specs.inner.EntryLaws.{quotient_cmp-positive}
+use Rattle.sl_law_meaning.specs.methods.Ties.{Lists}
+use Rattle.sl_law_meaning.specs.laws.Ladders.{IsPeer}
+use Rattle.sl_base_quotients.proofs.Order.{AtMost-trans}
+use Rattle.sl_law_meaning.proofs.methods.DrawnLots.{same_entries}
+use Rattle.sl_base_rankings.specs.Ranking.{ranked}
+use Rattle.sl_base_rankings.specs.Peers.{top, peers, has_quotient_of}
+use Rattle.sl_base_rankings.proofs.Finding.{All-at, Contains-none, Contains-head, Contains-filter, filter-Contains}
+use Rattle.sl_base_rankings.proofs.Fronts.{HasRatio, quotient_at_most}
+use Rattle.sl_base_rankings.proofs.LawProofs.{order_is_free, first_peers, tops}
+use Rattle.sl_base_rankings.proofs.RankedEntries.{falling_rankings}
+use Rattle.sl_base_rankings.proofs.Rankings.{ranked-permutation}
+use Rattle.sl_base_rankings.proofs.Tables.{peers-at_top}
 use Rattle.sl_compile_pieces.specs.arenas.Arenas.{Arena, IsArena, waiting}
 use Rattle.sl_compile_pieces.specs.arenas.Laws.{WaitingPeers}
 use Rattle.sl_compile_pieces.proofs.arenas.Pieces.{filtered, below_there, range_increasing}

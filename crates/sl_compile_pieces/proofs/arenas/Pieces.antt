@@ -6,7 +6,7 @@ use Rattle.std.specs.List.Sorted.{IsStrictlyIncreasing}
 use Rattle.std.proofs.lemmas.Bool.{cases_Bool}
 use Rattle.std.proofs.lemmas.Option.{slice_get_within, get_or_from_slice_get}
 use Rattle.std.proofs.lemmas.List.FromFn.{length-range_with_len, get_or-range_with_len}
-use Rattle.sl_prio.proofs.Finding.{Contains-none, Contains-cases, Contains-head, Contains-tail}
+use Rattle.sl_base_rankings.proofs.Finding.{Contains-none, Contains-cases, Contains-head, Contains-tail}
 
 module _ {X : Type 0} (has : ℕ → Bool) (made : ℕ → X) where
   abbrev pub piece : ℕ → List X

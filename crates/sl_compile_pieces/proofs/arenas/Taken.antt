@@ -6,9 +6,9 @@ use Rattle.std.proofs.lemmas.Bool.{false_from_ne_true}
 use Rattle.std.proofs.lemmas.Option.{slice_get-get_or}
 use Rattle.std.proofs.lemmas.List.FromFn.{length-range_with_len, get_or-range_with_len}
 use Rattle.std.proofs.lemmas.List.Sorted.{IsPermutation-sym}
-use Rattle.sl_stages.specs.laws.Ladders.{RaisesEach}
-use Rattle.sl_stages.proofs.meaning.ChangedPieces.{ChangesPiece, changes_piece}
-use Rattle.sl_prio.proofs.RankedEntries.{ranked_alike, ranked_with_one_more, ranked_without_one}
+use Rattle.sl_law_meaning.specs.laws.Ladders.{RaisesEach}
+use Rattle.sl_law_meaning.proofs.meaning.ChangedPieces.{ChangesPiece, changes_piece}
+use Rattle.sl_base_rankings.proofs.RankedEntries.{ranked_alike, ranked_with_one_more, ranked_without_one}
 use Rattle.sl_compile_pieces.specs.arenas.Arenas.{Arena, seat_of, next_seat, waiting}
 use Rattle.sl_compile_pieces.specs.arenas.Laws.{WaitingTaken}
 use Rattle.sl_compile_pieces.proofs.arenas.Pieces.{number_is, not_it}

@@ -1,12 +1,12 @@
 -- A turn within a batch.
 use Rattle.std.proofs.Common.{ℕ, ◌<◌, ◌≤◌, List, [], ◌∷◌, length, arith}
 use Rattle.std.specs.Prelude.{slice_index}
-use Rattle.sl_stages.specs.methods.Ties.{Lists}
-use Rattle.sl_stages.specs.laws.Ladders.{IsPeer}
-use Rattle.sl_stages.specs.laws.Walks.{MidBatch}
-use Rattle.sl_stages.proofs.methods.LadderProofs.{batches}
-use Rattle.sl_stages.proofs.methods.WalkProofs.{walks}
-use Rattle.sl_prio.proofs.Finding.{Contains-head, Contains-none}
+use Rattle.sl_law_meaning.specs.methods.Ties.{Lists}
+use Rattle.sl_law_meaning.specs.laws.Ladders.{IsPeer}
+use Rattle.sl_law_meaning.specs.laws.Walks.{MidBatch}
+use Rattle.sl_law_meaning.proofs.methods.LadderProofs.{batches}
+use Rattle.sl_law_meaning.proofs.methods.WalkProofs.{walks}
+use Rattle.sl_base_rankings.proofs.Finding.{Contains-head, Contains-none}
 use Rattle.sl_compile_pieces.specs.arenas.Arenas.{Arena, IsArena}
 use Rattle.sl_compile_pieces.specs.arenas.Laws.{PeersWait, Turn, WaitingTurns}
 use Rattle.sl_compile_pieces.proofs.arenas.Peers.{waiting_peers}

@@ -2,9 +2,9 @@
 use Rattle.std.proofs.Common.{◌≡◌, ℕ, ◌<◌, ◌≤◌, Bool, true, List, length, All, Contains, get_or, sym, subst, arith}
 use Rattle.std.specs.Prelude.{slice_index}
 use Rattle.std.specs.List.{range_with_len}
-use Rattle.sl_ratio.specs.declared.entry.Entry.{Entry}
+use Rattle.sl_base_quotients.specs.declared.entry.Entry.{Entry}
 use Rattle.std.proofs.lemmas.List.Elements.{Contains-get_or}
-use Rattle.sl_prio.proofs.Fronts.{HasRatio}
+use Rattle.sl_base_rankings.proofs.Fronts.{HasRatio}
 use Rattle.sl_compile_pieces.specs.arenas.Arenas.{Arena, IsArena, seat_of, waiting}
 use Rattle.sl_compile_pieces.proofs.arenas.Pieces.{piece_there, piece_of, below_there}
 

@@ -1,10 +1,10 @@
 -- The plan of awards: whole batches, and then the last one.
 use Rattle.std.proofs.Common.{◌≡◌, ℕ, ◌+◌, ◌-◌, ◌<◌, ◌≤◌, List, length, sum, refl, arith}
-use Rattle.sl_stages.specs.returns.Election.{Election}
-use Rattle.sl_stages.specs.laws.Ladders.{IsSettled}
-use Rattle.sl_stages.specs.laws.Walks.{MidBatch}
-use Rattle.sl_stages.proofs.methods.LadderProofs.{batches}
-use Rattle.sl_stages.proofs.methods.WalkProofs.{walks}
+use Rattle.sl_law_meaning.specs.returns.Election.{Election}
+use Rattle.sl_law_meaning.specs.laws.Ladders.{IsSettled}
+use Rattle.sl_law_meaning.specs.laws.Walks.{MidBatch}
+use Rattle.sl_law_meaning.proofs.methods.LadderProofs.{batches}
+use Rattle.sl_law_meaning.proofs.methods.WalkProofs.{walks}
 use Rattle.sl_code_instructions.specs.Codes.{CountingCode}
 use Rattle.sl_code_semantics.specs.State.{State, End, with_register}
 use Rattle.sl_compile_plans.specs.declared.plan.Bound.{Bound}

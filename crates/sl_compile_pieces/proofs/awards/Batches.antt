@@ -3,10 +3,10 @@ use Rattle.std.proofs.Common.{◌≡◌, ◌≢◌, ℕ, zero, suc, ◌+◌, ◌
 use Rattle.std.specs.List.{list_any}
 use Rattle.std.specs.Prelude.{nat_eq}
 use Rattle.std.proofs.lemmas.Bool.{eq-eqb, false≢true}
-use Rattle.sl_stages.specs.returns.Election.{Election}
-use Rattle.sl_stages.specs.laws.Ladders.{IsSettled}
-use Rattle.sl_stages.specs.laws.Walks.{MidBatch}
-use Rattle.sl_stages.proofs.methods.WalkProofs.{walks}
+use Rattle.sl_law_meaning.specs.returns.Election.{Election}
+use Rattle.sl_law_meaning.specs.laws.Ladders.{IsSettled}
+use Rattle.sl_law_meaning.specs.laws.Walks.{MidBatch}
+use Rattle.sl_law_meaning.proofs.methods.WalkProofs.{walks}
 use Rattle.sl_code_instructions.specs.Codes.{CountingCode}
 use Rattle.sl_code_semantics.specs.State.{State, with_register}
 use Rattle.sl_code_semantics.proofs.effects.Storing.{register_same, register_other}

@@ -2,20 +2,20 @@
 use Rattle.std.proofs.Common.{◌≡◌, ℕ, suc, ◌+◌, ◌<◌, ◌≤◌, List, [], ◌∷◌, length, sum, refl, ap, ◌∙◌, arith, ◌⊎◌, ◌-◌, IsTrue, sym, subst, inl, inr}
 use Rattle.std.specs.Prelude.{slice_index, ◌↔◌}
 use Rattle.std.proofs.lemmas.Bool.{true≢false}
-use Rattle.sl_ratio.specs.declared.entry.Entry.{Entry}
-use Rattle.sl_stages.specs.returns.Election.{Election}
-use Rattle.sl_stages.specs.methods.Ties.{Lists, NamesAll, drawn, Decided, Tied, IsChoice}
-use Rattle.sl_stages.specs.laws.Awards.{DrawsNext, BatchLaws}
-use Rattle.sl_stages.specs.laws.Ladders.{IsPeer, RaisesEach, IsTop, IsSettled}
-use Rattle.sl_stages.specs.laws.Walks.{MidBatch}
-use Rattle.sl_stages.proofs.methods.DrawnLots.{draws, drawn_length}
-use Rattle.sl_stages.proofs.methods.RaisedSeats.{raise, increasing_distinct}
-use Rattle.sl_stages.proofs.methods.WalkProofs.{walks}
-use Rattle.sl_stages.proofs.methods.LadderProofs.{batches}
+use Rattle.sl_base_quotients.specs.declared.entry.Entry.{Entry}
+use Rattle.sl_law_meaning.specs.returns.Election.{Election}
+use Rattle.sl_law_meaning.specs.methods.Ties.{Lists, NamesAll, drawn, Decided, Tied, IsChoice}
+use Rattle.sl_law_meaning.specs.laws.Awards.{DrawsNext, BatchLaws}
+use Rattle.sl_law_meaning.specs.laws.Ladders.{IsPeer, RaisesEach, IsTop, IsSettled}
+use Rattle.sl_law_meaning.specs.laws.Walks.{MidBatch}
+use Rattle.sl_law_meaning.proofs.methods.DrawnLots.{draws, drawn_length}
+use Rattle.sl_law_meaning.proofs.methods.RaisedSeats.{raise, increasing_distinct}
+use Rattle.sl_law_meaning.proofs.methods.WalkProofs.{walks}
+use Rattle.sl_law_meaning.proofs.methods.LadderProofs.{batches}
 use Rattle.sl_code_instructions.specs.Codes.{CountingCode}
 use Rattle.sl_code_instructions.specs.declared.instr.Instr.TheVariants.{Takelot}
-use Rattle.sl_prio.specs.Ranking.{ranked}
-use Rattle.sl_prio.specs.Prio.{peers, is_covered}
+use Rattle.sl_base_rankings.specs.Ranking.{ranked}
+use Rattle.sl_base_rankings.specs.Peers.{peers, is_covered}
 use Rattle.sl_code_semantics.specs.State.{State, with_register, End}
 use Rattle.sl_code_semantics.specs.Drawn.{lot_of}
 use Rattle.sl_compile_plans.specs.declared.plan.Test.TheVariants as test

@@ -1,20 +1,20 @@
 -- A seat of a batch: one of its peers gets it, and one seat less is to be given.
 use Rattle.std.proofs.Common.{◌≡◌, ℕ, suc, ◌+◌, ◌-◌, ◌<◌, ◌≤◌, List, [], ◌∷◌, length, sum, Some, refl, ap, subst, ◌∙◌, inl, inr, arith}
 use Rattle.std.specs.Prelude.{slice_index}
-use Rattle.sl_ratio.specs.declared.entry.Entry.{Entry}
-use Rattle.sl_stages.specs.returns.Election.{Election}
-use Rattle.sl_stages.specs.laws.Ladders.{Ladders, RaisesEach}
-use Rattle.sl_stages.specs.laws.Walks.{MidBatch, WalkLaws}
-use Rattle.sl_stages.proofs.methods.RaisedSeats.{raise, Contains-cases, Contains-none}
-use Rattle.sl_stages.proofs.methods.LadderProofs.{raise_each}
-use Rattle.sl_stages.proofs.methods.SeatSums.{entry_le_sum}
-use Rattle.sl_stages.proofs.methods.WalkProofs.{walks}
+use Rattle.sl_base_quotients.specs.declared.entry.Entry.{Entry}
+use Rattle.sl_law_meaning.specs.returns.Election.{Election}
+use Rattle.sl_law_meaning.specs.laws.Ladders.{Ladders, RaisesEach}
+use Rattle.sl_law_meaning.specs.laws.Walks.{MidBatch, WalkLaws}
+use Rattle.sl_law_meaning.proofs.methods.RaisedSeats.{raise, Contains-cases, Contains-none}
+use Rattle.sl_law_meaning.proofs.methods.LadderProofs.{raise_each}
+use Rattle.sl_law_meaning.proofs.methods.SeatSums.{entry_le_sum}
+use Rattle.sl_law_meaning.proofs.methods.WalkProofs.{walks}
 use Rattle.sl_code_instructions.specs.declared.instr.Instr.TheVariants.{Sub, Take}
 use Rattle.sl_code_instructions.specs.declared.operand.Entries.{Entries}
 use Rattle.sl_code_instructions.specs.declared.operand.Entries.TheVariants as entries
 use Rattle.sl_code_instructions.specs.Codes.{CountingCode}
-use Rattle.sl_prio.specs.Ranking.{ranked}
-use Rattle.sl_prio.specs.Prio.{top}
+use Rattle.sl_base_rankings.specs.Ranking.{ranked}
+use Rattle.sl_base_rankings.specs.Peers.{top}
 use Rattle.sl_code_semantics.specs.State.{State, with_register}
 use Rattle.sl_code_semantics.specs.Places.{at_entry}
 use Rattle.sl_code_semantics.specs.Effects.{Goes, effect}

@@ -2,20 +2,20 @@
 use Rattle.std.proofs.Common.{◌≡◌, ℕ, suc, ◌+◌, ◌-◌, ◌<◌, ◌≤◌, min, List, [], ◌∷◌, length, sum, refl, ap, arith, le_refl, Bool, false, ◌==◌, if◌then◌else◌, sym, ◌∙◌, true}
 use Rattle.std.specs.Prelude.{Contains, slice_index, nat_eq}
 use Rattle.std.specs.List.{list_any}
-use Rattle.sl_stages.specs.returns.Election.{Election}
-use Rattle.sl_stages.specs.methods.Ties.{Lists}
-use Rattle.sl_stages.specs.laws.Ladders.{Ladders, AreFalling, IsSettled, IsPeer, RaisesEach, Has, HasRoom}
-use Rattle.sl_stages.specs.laws.Walks.{MidBatch}
-use Rattle.sl_stages.proofs.methods.DrawnLots.{fits_in, same_entries}
-use Rattle.sl_stages.proofs.methods.RaisedSeats.{increasing_distinct}
-use Rattle.sl_stages.proofs.methods.SeatSums.{sum_mono}
-use Rattle.sl_stages.proofs.methods.WalkProofs.{walks}
-use Rattle.sl_stages.proofs.methods.LadderProofs.{batches}
+use Rattle.sl_law_meaning.specs.returns.Election.{Election}
+use Rattle.sl_law_meaning.specs.methods.Ties.{Lists}
+use Rattle.sl_law_meaning.specs.laws.Ladders.{Ladders, AreFalling, IsSettled, IsPeer, RaisesEach, Has, HasRoom}
+use Rattle.sl_law_meaning.specs.laws.Walks.{MidBatch}
+use Rattle.sl_law_meaning.proofs.methods.DrawnLots.{fits_in, same_entries}
+use Rattle.sl_law_meaning.proofs.methods.RaisedSeats.{increasing_distinct}
+use Rattle.sl_law_meaning.proofs.methods.SeatSums.{sum_mono}
+use Rattle.sl_law_meaning.proofs.methods.WalkProofs.{walks}
+use Rattle.sl_law_meaning.proofs.methods.LadderProofs.{batches}
 use Rattle.sl_code_instructions.specs.declared.operand.Entries.{Entries}
 use Rattle.sl_code_instructions.specs.declared.operand.Entries.TheVariants as entries
 use Rattle.sl_code_instructions.specs.Codes.{CountingCode}
-use Rattle.sl_prio.specs.Ranking.{ranked}
-use Rattle.sl_prio.specs.Prio.{peers}
+use Rattle.sl_base_rankings.specs.Ranking.{ranked}
+use Rattle.sl_base_rankings.specs.Peers.{peers}
 use Rattle.sl_code_semantics.specs.State.{State, End, with_register}
 use Rattle.sl_code_semantics.specs.Places.{at_entry}
 use Rattle.sl_code_semantics.specs.Effects as machine

@@ -3,34 +3,34 @@ use Rattle.std.proofs.Common.{◌≡◌, ◌≢◌, ℕ, ◌*◌, ◌<◌, ◌�
 use Rattle.std.specs.Prelude.{find, position, unwrap_or}
 use Rattle.std.specs.List.{list_any}
 use Rattle.std.proofs.lemmas.Bool.{and_parts}
-use Rattle.sl_ratio.specs.declared.limits.TheConstants.{MAX_SEATS}
-use Rattle.sl_stages.specs.declared.fact.Fact.TheVariants as facts
-use Rattle.sl_stages.specs.declared.book.Base.{Base}
-use Rattle.sl_stages.specs.declared.book.Base.TheVariants as base
-use Rattle.sl_stages.specs.declared.book.ColumnType.{ColumnType}
-use Rattle.sl_stages.specs.declared.check_fault.CheckFault.TheVariants as fault
-use Rattle.sl_stages.specs.declared.book.LastClause.{LastClause}
+use Rattle.sl_base_quotients.specs.declared.limits.TheConstants.{MAX_SEATS}
+use Rattle.sl_law_meaning.specs.declared.fact.Fact.TheVariants as facts
+use Rattle.sl_law_meaning.specs.declared.book.Base.{Base}
+use Rattle.sl_law_meaning.specs.declared.book.Base.TheVariants as base
+use Rattle.sl_law_meaning.specs.declared.book.ColumnType.{ColumnType}
+use Rattle.sl_law_meaning.specs.declared.check_fault.CheckFault.TheVariants as fault
+use Rattle.sl_law_meaning.specs.declared.book.LastClause.{LastClause}
 use Rattle.sl_base_terms.specs.declared.shape.Shape.{Shape}
 use Rattle.sl_base_terms.specs.declared.shape.Shape.TheVariants as shape
-use Rattle.sl_stages.specs.declared.book.Unit.TheVariants as unit
+use Rattle.sl_law_meaning.specs.declared.book.Unit.TheVariants as unit
 use Rattle.sl_base_terms.specs.Tests.{test, first_failing}
-use Rattle.sl_stages.specs.book.Trees.{BookTree, name}
-use Rattle.sl_stages.specs.book.Typing.{column, type_of, type_or_one, is_named, is_typed, same_unit, name_tests, base_tests}
+use Rattle.sl_law_meaning.specs.book.Trees.{BookTree, name}
+use Rattle.sl_law_meaning.specs.book.Typing.{column, type_of, type_or_one, is_named, is_typed, same_unit, name_tests, base_tests}
 use Rattle.sl_base_terms.specs.Shapes.{same_shape}
-use Rattle.sl_stages.specs.returns.Election.{Election, IsElection, lands_of, parties_of}
-use Rattle.sl_stages.specs.returns.Facts.{list_winners}
-use Rattle.sl_stages.specs.meaning.Columns.{IsLeaf}
-use Rattle.sl_stages.specs.meaning.Expressions.{Context}
-use Rattle.sl_stages.specs.meaning.Means.{Known}
-use Rattle.sl_stages.specs.meaning.Records.{no_records}
-use Rattle.sl_stages.specs.meaning.Seating.{base_of}
-use Rattle.sl_stages.specs.laws.ColumnLaws.{FitsType}
-use Rattle.sl_stages.proofs.Units.{same_unit_is}
+use Rattle.sl_law_meaning.specs.returns.Election.{Election, IsElection, lands_of, parties_of}
+use Rattle.sl_law_meaning.specs.returns.Facts.{list_winners}
+use Rattle.sl_law_meaning.specs.meaning.Columns.{IsLeaf}
+use Rattle.sl_law_meaning.specs.meaning.Expressions.{Context}
+use Rattle.sl_law_meaning.specs.meaning.Means.{Known}
+use Rattle.sl_law_meaning.specs.meaning.Records.{no_records}
+use Rattle.sl_law_meaning.specs.meaning.Seating.{base_of}
+use Rattle.sl_law_meaning.specs.laws.ColumnLaws.{FitsType}
+use Rattle.sl_law_meaning.proofs.Units.{same_unit_is}
 use Rattle.sl_base_terms.proofs.Shapes.{same_shape_is}
 use Rattle.sl_base_terms.proofs.Tests.{pass_parts, head_holds}
-use Rattle.sl_stages.proofs.typing.NodeLaws.{column_is}
-use Rattle.sl_stages.proofs.meaning.TypedColumns.{winners_typed}
-use Rattle.sl_stages.proofs.meaning.TypedMeaning.{typed_expressions}
+use Rattle.sl_law_meaning.proofs.typing.NodeLaws.{column_is}
+use Rattle.sl_law_meaning.proofs.meaning.TypedColumns.{winners_typed}
+use Rattle.sl_law_meaning.proofs.meaning.TypedMeaning.{typed_expressions}
 use Rattle.sl_code_instructions.specs.Codes.{CountingCode}
 use Rattle.sl_code_semantics.specs.State.{State}
 use Rattle.sl_compile_pieces.specs.columns.Columns.{HoldsColumn}

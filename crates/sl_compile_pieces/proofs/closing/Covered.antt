@@ -5,23 +5,23 @@ use Rattle.std.specs.List.{enumerate_from}
 use Rattle.std.proofs.lemmas.List.{length-map, get_or-map}
 use Rattle.std.proofs.lemmas.List.FromFn.{length-enumerate_from, get_or-enumerate_from}
 use Rattle.std.proofs.lemmas.Option.{get_or_from_slice_get}
-use Rattle.sl_ratio.specs.declared.limits.TheConstants.{MAX_SEATS}
-use Rattle.sl_stages.specs.declared.fact.Fact.TheVariants as facts
-use Rattle.sl_stages.specs.declared.book.Seating.{Seating}
-use Rattle.sl_stages.specs.declared.book.Seating.TheVariants as seating
+use Rattle.sl_base_quotients.specs.declared.limits.TheConstants.{MAX_SEATS}
+use Rattle.sl_law_meaning.specs.declared.fact.Fact.TheVariants as facts
+use Rattle.sl_law_meaning.specs.declared.book.Seating.{Seating}
+use Rattle.sl_law_meaning.specs.declared.book.Seating.TheVariants as seating
 use Rattle.sl_base_terms.specs.declared.shape.Shape.TheVariants as shape
-use Rattle.sl_stages.specs.declared.fault.LegalFault.{LegalFault}
-use Rattle.sl_stages.specs.declared.returns.Win.{Win}
-use Rattle.sl_stages.specs.declared.table.Outcome.{Outcome}
-use Rattle.sl_stages.specs.declared.table.Outcome.TheVariants as outcome
-use Rattle.sl_stages.specs.declared.table.Placed.TheVariants as placed
-use Rattle.sl_stages.specs.book.Trees.{BookTree}
-use Rattle.sl_stages.specs.returns.Election.{Election, IsElection, parties_of}
-use Rattle.sl_stages.specs.returns.Facts.{is_eligible, list_cell, list_winners, lists_of}
-use Rattle.sl_stages.specs.methods.Ties.{Choice}
-use Rattle.sl_stages.specs.meaning.Means.{Known, IsCovered, IsSeated, IsEnd}
-use Rattle.sl_stages.specs.meaning.Seating.{placed_on, tie_of, seated_on, cover_place, covered_places, cover_table}
-use Rattle.sl_stages.proofs.meaning.CoveredWinners.{covered_winners}
+use Rattle.sl_law_meaning.specs.declared.fault.LegalFault.{LegalFault}
+use Rattle.sl_law_meaning.specs.declared.election.Win.{Win}
+use Rattle.sl_law_meaning.specs.declared.table.Outcome.{Outcome}
+use Rattle.sl_law_meaning.specs.declared.table.Outcome.TheVariants as outcome
+use Rattle.sl_law_meaning.specs.declared.table.Placed.TheVariants as placed
+use Rattle.sl_law_meaning.specs.book.Trees.{BookTree}
+use Rattle.sl_law_meaning.specs.returns.Election.{Election, IsElection, parties_of}
+use Rattle.sl_law_meaning.specs.returns.Facts.{is_eligible, list_cell, list_winners, lists_of}
+use Rattle.sl_law_meaning.specs.methods.Ties.{Choice}
+use Rattle.sl_law_meaning.specs.meaning.Means.{Known, IsCovered, IsSeated, IsEnd}
+use Rattle.sl_law_meaning.specs.meaning.Seating.{placed_on, tie_of, seated_on, cover_place, covered_places, cover_table}
+use Rattle.sl_law_meaning.proofs.meaning.CoveredWinners.{covered_winners}
 use Rattle.sl_code_instructions.specs.Codes.{CountingCode}
 use Rattle.sl_code_semantics.specs.State.{State, End}
 use Rattle.sl_code_semantics.specs.Effects.{one_if}

@@ -3,23 +3,23 @@ use Rattle.std.proofs.Common.{◌≡◌, ℕ, ◌+◌, Bool, true, [], ◌∷◌
 use Rattle.std.proofs.lemmas.Bool.{and_parts}
 use Rattle.std.proofs.lemmas.Option.{slice_get_within, get_or_from_slice_get}
 use Rattle.std.proofs.lemmas.List.{length-map, get_or-map}
-use Rattle.sl_ratio.specs.declared.limits.TheConstants.{MAX_SEATS}
-use Rattle.sl_stages.specs.declared.returns.Win.{Win}
-use Rattle.sl_stages.specs.declared.table.Placed.{Placed}
-use Rattle.sl_stages.specs.declared.table.Placed.TheVariants as placed
-use Rattle.sl_stages.specs.book.Trees.{BookTree}
-use Rattle.sl_stages.specs.returns.Election.{Election, IsElection, has_list, lands_of, parties_of}
-use Rattle.sl_stages.specs.returns.Facts.{is_eligible, list_winners}
-use Rattle.sl_stages.specs.meaning.Seating.{kept_place, kept_seats, keep_table}
-use Rattle.sl_stages.specs.declared.book.Pairing.TheVariants as pairings
-use Rattle.sl_stages.specs.declared.fact.Fact.TheVariants as facts
-use Rattle.sl_stages.specs.declared.book.Seating.{Seating}
-use Rattle.sl_stages.specs.declared.book.Seating.TheVariants as seating
+use Rattle.sl_base_quotients.specs.declared.limits.TheConstants.{MAX_SEATS}
+use Rattle.sl_law_meaning.specs.declared.election.Win.{Win}
+use Rattle.sl_law_meaning.specs.declared.table.Placed.{Placed}
+use Rattle.sl_law_meaning.specs.declared.table.Placed.TheVariants as placed
+use Rattle.sl_law_meaning.specs.book.Trees.{BookTree}
+use Rattle.sl_law_meaning.specs.returns.Election.{Election, IsElection, has_list, lands_of, parties_of}
+use Rattle.sl_law_meaning.specs.returns.Facts.{is_eligible, list_winners}
+use Rattle.sl_law_meaning.specs.meaning.Seating.{kept_place, kept_seats, keep_table}
+use Rattle.sl_law_meaning.specs.declared.book.Pairing.TheVariants as pairings
+use Rattle.sl_law_meaning.specs.declared.fact.Fact.TheVariants as facts
+use Rattle.sl_law_meaning.specs.declared.book.Seating.{Seating}
+use Rattle.sl_law_meaning.specs.declared.book.Seating.TheVariants as seating
 use Rattle.sl_base_terms.specs.declared.shape.Shape.TheVariants as shape
-use Rattle.sl_stages.specs.declared.table.Outcome.TheVariants as outcome
-use Rattle.sl_stages.specs.meaning.Means.{Known, IsSeated, IsEnd}
-use Rattle.sl_stages.proofs.meaning.PlacedWinners.{kept_direct}
-use Rattle.sl_stages.proofs.meaning.TypedColumns.{winners_typed}
+use Rattle.sl_law_meaning.specs.declared.table.Outcome.TheVariants as outcome
+use Rattle.sl_law_meaning.specs.meaning.Means.{Known, IsSeated, IsEnd}
+use Rattle.sl_law_meaning.proofs.meaning.PlacedWinners.{kept_direct}
+use Rattle.sl_law_meaning.proofs.meaning.TypedColumns.{winners_typed}
 use Rattle.sl_code_instructions.specs.declared.instr.Instr.TheVariants.{Seat, Single}
 use Rattle.sl_code_instructions.specs.Codes.{CountingCode}
 use Rattle.sl_code_semantics.specs.State.{State, with_place, End}

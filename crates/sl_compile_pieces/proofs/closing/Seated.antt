@@ -3,16 +3,16 @@ use Rattle.std.proofs.Common.{◌≡◌, ℕ, ◌+◌, ◌-◌, ◌*◌, ◌<◌
 use Rattle.std.specs.List.{range_with_len}
 use Rattle.std.proofs.lemmas.List.FromFn.{fill_by_all}
 use Rattle.sl_base_terms.specs.declared.shape.Shape.TheVariants as shape
-use Rattle.sl_stages.specs.declared.returns.Win.{Win}
-use Rattle.sl_stages.specs.declared.table.Outcome.TheVariants as outcome
-use Rattle.sl_stages.specs.declared.table.Placed.{Placed}
-use Rattle.sl_stages.specs.declared.table.Placed.TheVariants as placed
-use Rattle.sl_stages.specs.book.Trees.{BookTree}
-use Rattle.sl_stages.specs.returns.Election.{Election, lands_of, parties_of, wins_of}
-use Rattle.sl_stages.specs.returns.Facts.{list_cell, list_winners}
-use Rattle.sl_stages.specs.meaning.Seating.{placed_on, table_of}
-use Rattle.sl_stages.specs.meaning.Means.{Known, IsEnd}
-use Rattle.sl_stages.specs.laws.MeaningLaws.{IsListOf}
+use Rattle.sl_law_meaning.specs.declared.election.Win.{Win}
+use Rattle.sl_law_meaning.specs.declared.table.Outcome.TheVariants as outcome
+use Rattle.sl_law_meaning.specs.declared.table.Placed.{Placed}
+use Rattle.sl_law_meaning.specs.declared.table.Placed.TheVariants as placed
+use Rattle.sl_law_meaning.specs.book.Trees.{BookTree}
+use Rattle.sl_law_meaning.specs.returns.Election.{Election, lands_of, parties_of, wins_of}
+use Rattle.sl_law_meaning.specs.returns.Facts.{list_cell, list_winners}
+use Rattle.sl_law_meaning.specs.meaning.Seating.{placed_on, table_of}
+use Rattle.sl_law_meaning.specs.meaning.Means.{Known, IsEnd}
+use Rattle.sl_law_meaning.specs.laws.MeaningLaws.{IsListOf}
 use Rattle.sl_code_semantics.specs.State.{State}
 use Rattle.sl_code_semantics.specs.Effects.{most}
 use Rattle.sl_compile_pieces.specs.columns.Columns.{HoldsColumn}

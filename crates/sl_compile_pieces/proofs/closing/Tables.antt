@@ -4,17 +4,17 @@ use Rattle.std.specs.List.{range_with_len}
 use Rattle.std.proofs.lemmas.Bool.{cases_lt}
 use Rattle.std.proofs.lemmas.List.{length-replicate, get_or-replicate, get_or_past}
 use Rattle.sl_base_terms.specs.declared.shape.Shape.TheVariants as shape
-use Rattle.sl_stages.specs.declared.returns.ListVotes.{ListVotes}
-use Rattle.sl_stages.specs.declared.table.Placed.{Placed}
-use Rattle.sl_stages.specs.book.Trees.{BookTree}
-use Rattle.sl_stages.specs.book.Typing.{Column}
-use Rattle.sl_stages.specs.returns.Election.{Election, lands_of, parties_of, wins_of, list_at}
-use Rattle.sl_stages.specs.returns.Facts.{list_cell, list_winners}
-use Rattle.sl_stages.specs.returns.Votes.{slate_in}
-use Rattle.sl_stages.specs.meaning.Means.{Known}
-use Rattle.sl_stages.specs.meaning.Seating.{placed_on, vacant_of as vacant_by, table_line, table_of}
-use Rattle.sl_stages.specs.laws.MeaningLaws.{IsListOf}
-use Rattle.sl_stages.proofs.meaning.EachList.{each_list_agree}
+use Rattle.sl_law_meaning.specs.declared.election.ListVotes.{ListVotes}
+use Rattle.sl_law_meaning.specs.declared.table.Placed.{Placed}
+use Rattle.sl_law_meaning.specs.book.Trees.{BookTree}
+use Rattle.sl_law_meaning.specs.book.Typing.{Column}
+use Rattle.sl_law_meaning.specs.returns.Election.{Election, lands_of, parties_of, wins_of, list_at}
+use Rattle.sl_law_meaning.specs.returns.Facts.{list_cell, list_winners}
+use Rattle.sl_law_meaning.specs.returns.Votes.{slate_in}
+use Rattle.sl_law_meaning.specs.meaning.Means.{Known}
+use Rattle.sl_law_meaning.specs.meaning.Seating.{placed_on, vacant_of as vacant_by, table_line, table_of}
+use Rattle.sl_law_meaning.specs.laws.MeaningLaws.{IsListOf}
+use Rattle.sl_law_meaning.proofs.meaning.EachList.{each_list_agree}
 use Rattle.sl_code_instructions.specs.Codes.{CountingCode}
 use Rattle.sl_code_semantics.specs.State.{State}
 use Rattle.sl_code_semantics.specs.Effects.{most, from_lists, names_or_most}

@@ -1,11 +1,11 @@
 -- With `vacate`: the seats that neither winners nor names fill.
 use Rattle.std.proofs.Common.{◌≡◌, ◌≢◌, ℕ, ◌-◌, ◌*◌, ◌<◌, List, [], ◌∷◌, Option, None, Some, refl, ap₂, ◌∙◌, arith}
 use Rattle.std.proofs.lemmas.Option.{none-some}
-use Rattle.sl_stages.specs.declared.book.Pairing.TheVariants as pairings
-use Rattle.sl_stages.specs.declared.fact.Fact.TheVariants as facts
+use Rattle.sl_law_meaning.specs.declared.book.Pairing.TheVariants as pairings
+use Rattle.sl_law_meaning.specs.declared.fact.Fact.TheVariants as facts
 use Rattle.sl_base_terms.specs.declared.shape.Shape.TheVariants as shape
-use Rattle.sl_stages.specs.returns.Election.{Election, lands_of, parties_of}
-use Rattle.sl_stages.specs.book.Typing.{Column}
+use Rattle.sl_law_meaning.specs.returns.Election.{Election, lands_of, parties_of}
+use Rattle.sl_law_meaning.specs.book.Typing.{Column}
 use Rattle.sl_code_instructions.specs.Codes.{CountingCode}
 use Rattle.sl_code_instructions.specs.declared.instr.Instr.TheVariants.{Input}
 use Rattle.sl_code_instructions.specs.declared.operand.Input.TheVariants as input

@@ -5,12 +5,12 @@ use Rattle.std.proofs.lemmas.List.Folds.{fold-map}
 use Rattle.std.proofs.lemmas.List.FromFn.{length-map-range_with_len, get_or-map-range_with_len}
 use Rattle.std.proofs.lemmas.List.Sums.{sum_by_more, sum_by-take-le}
 use Rattle.std.proofs.lemmas.Option.{same_Some}
-use Rattle.sl_stages.specs.declared.book.Axis.TheVariants as axis
+use Rattle.sl_law_meaning.specs.declared.book.Axis.TheVariants as axis
 use Rattle.sl_base_terms.specs.declared.shape.Shape.{Shape}
 use Rattle.sl_base_terms.specs.declared.shape.Shape.TheVariants as shape
-use Rattle.sl_stages.specs.returns.Election.{Election, lands_of, parties_of}
-use Rattle.sl_stages.specs.returns.Facts.{list_cell}
-use Rattle.sl_stages.specs.meaning.Columns.{sum_over}
+use Rattle.sl_law_meaning.specs.returns.Election.{Election, lands_of, parties_of}
+use Rattle.sl_law_meaning.specs.returns.Facts.{list_cell}
+use Rattle.sl_law_meaning.specs.meaning.Columns.{sum_over}
 use Rattle.sl_code_instructions.specs.declared.instr.Instr.TheVariants.{Add, Get}
 use Rattle.sl_code_instructions.specs.Codes.{CountingCode}
 use Rattle.sl_code_semantics.specs.State.{State, with_register}

@@ -2,8 +2,8 @@
 use Rattle.std.proofs.Common.{◌≡◌, ℕ, zero, suc, ◌+◌, ◌-◌, ◌<◌, ◌≤◌, ◌&&◌, Bool, true, false, List, [], map, length, nat_eq, nat_lt, refl, sym, ap, ◌∙◌, inl, inr, arith}
 use Rattle.std.specs.Prelude.{slice_index, if◌then◌else◌}
 use Rattle.std.proofs.lemmas.Bool.{cases_Bool, cases_lt, false≢true, and_parts, and_from, ltb-true, lt-ltb, ne_eqb, false_from_ne_true}
-use Rattle.sl_stages.specs.declared.returns.Win.{Win}
-use Rattle.sl_stages.specs.returns.Election.{Election}
+use Rattle.sl_law_meaning.specs.declared.election.Win.{Win}
+use Rattle.sl_law_meaning.specs.returns.Election.{Election}
 use Rattle.sl_code_semantics.specs.Effects.{one_if}
 use Rattle.sl_compile_pieces.proofs.covers.Pairs.{pair_at}
 use Rattle.sl_compile_pieces.proofs.covers.Winners.{won}

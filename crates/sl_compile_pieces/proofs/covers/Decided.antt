@@ -7,18 +7,18 @@ use Rattle.std.proofs.lemmas.Grind.{flat_map-append}
 use Rattle.std.proofs.lemmas.List.{append-nil, nil_from_length}
 use Rattle.std.proofs.lemmas.List.Elements.{filter_map-append}
 use Rattle.std.proofs.lemmas.Option.{slice_get_cases}
-use Rattle.sl_stages.specs.declared.fault.LegalFault.{LegalFault}
-use Rattle.sl_stages.specs.declared.fault.FaultKind.TheVariants as fault
-use Rattle.sl_stages.specs.declared.fault.Scope.TheVariants as scope
-use Rattle.sl_stages.specs.returns.Election.{Election, IsElection, has_list}
-use Rattle.sl_stages.specs.returns.Facts.{lists_of}
-use Rattle.sl_stages.specs.methods.Ties.{Choice, Decided, Tied}
-use Rattle.sl_stages.specs.meaning.Splits.{entries_at}
-use Rattle.sl_stages.specs.meaning.Results.{fault_at}
-use Rattle.sl_stages.specs.meaning.Seating.{winner_items, IsSeating, tie_of, seated_on}
-use Rattle.sl_stages.specs.laws.OneLaws.{ExactlyOne}
-use Rattle.sl_stages.proofs.meaning.ExactlyOne.{one_zip}
-use Rattle.sl_stages.proofs.meaning.OneOutcome.{one_seating}
+use Rattle.sl_law_meaning.specs.declared.fault.LegalFault.{LegalFault}
+use Rattle.sl_law_meaning.specs.declared.fault.FaultKind.TheVariants as fault
+use Rattle.sl_law_meaning.specs.declared.fault.Scope.TheVariants as scope
+use Rattle.sl_law_meaning.specs.returns.Election.{Election, IsElection, has_list}
+use Rattle.sl_law_meaning.specs.returns.Facts.{lists_of}
+use Rattle.sl_law_meaning.specs.methods.Ties.{Choice, Decided, Tied}
+use Rattle.sl_law_meaning.specs.meaning.Splits.{entries_at}
+use Rattle.sl_law_meaning.specs.meaning.Results.{fault_at}
+use Rattle.sl_law_meaning.specs.meaning.Seating.{winner_items, IsSeating, tie_of, seated_on}
+use Rattle.sl_law_meaning.specs.laws.OneLaws.{ExactlyOne}
+use Rattle.sl_law_meaning.proofs.meaning.ExactlyOne.{one_zip}
+use Rattle.sl_law_meaning.proofs.meaning.OneOutcome.{one_seating}
 use Rattle.sl_code_instructions.specs.Codes.{CountingCode}
 use Rattle.sl_code_semantics.specs.State.{End}
 use Rattle.sl_compile_pieces.specs.covers.Covering.{EndsInTie}

@@ -4,16 +4,16 @@ use Rattle.std.specs.Prelude.{slice_index}
 use Rattle.std.proofs.lemmas.Option.{slice_get_within}
 use Rattle.std.proofs.lemmas.List.{append-nil, length-append, map-append}
 use Rattle.std.proofs.lemmas.List.Sorted.{IsPermutation-sym, IsPermutation-to_front}
-use Rattle.sl_ratio.specs.declared.entry.Entry.{Entry}
+use Rattle.sl_base_quotients.specs.declared.entry.Entry.{Entry}
 use Rattle.sl_base_terms.specs.declared.shape.Shape.TheVariants as shape
-use Rattle.sl_stages.specs.declared.returns.Win.{Win}
-use Rattle.sl_stages.specs.returns.Election.{Election, IsElection, lands_of, parties_of}
-use Rattle.sl_stages.specs.returns.Facts.{list_cell}
+use Rattle.sl_law_meaning.specs.declared.election.Win.{Win}
+use Rattle.sl_law_meaning.specs.returns.Election.{Election, IsElection, lands_of, parties_of}
+use Rattle.sl_law_meaning.specs.returns.Facts.{list_cell}
 use Rattle.sl_code_instructions.specs.Codes.{CountingCode}
 use Rattle.sl_code_instructions.specs.declared.operand.Entries.TheVariants as entries
 use Rattle.sl_code_instructions.specs.declared.operand.Ranking.TheVariants as ranking
-use Rattle.sl_prio.specs.Ranking.{ranked}
-use Rattle.sl_prio.proofs.RankedEntries.{ranked_alike}
+use Rattle.sl_base_rankings.specs.Ranking.{ranked}
+use Rattle.sl_base_rankings.proofs.RankedEntries.{ranked_alike}
 use Rattle.sl_code_semantics.specs.State.{State, PriorityTable, with_register}
 use Rattle.sl_code_semantics.specs.Effects.{most}
 use Rattle.sl_code_semantics.proofs.effects.Registers.{get_does}

@@ -6,12 +6,12 @@ use Rattle.std.proofs.lemmas.Bool.{cases_Bool, cases_eq, eq-eqb, eqb-true, or_ca
 use Rattle.std.proofs.lemmas.List.Folds.{list_any-append}
 use Rattle.std.proofs.lemmas.Option.{same_Some, slice_get_within}
 use Rattle.sl_base_terms.specs.declared.shape.Shape.TheVariants as shape
-use Rattle.sl_stages.specs.declared.returns.Win.{Win}
-use Rattle.sl_stages.specs.declared.table.Placed.{Placed}
-use Rattle.sl_stages.specs.declared.table.Placed.TheVariants as placed
-use Rattle.sl_stages.specs.returns.Election.{Election, IsElection, lands_of, parties_of, has_list}
-use Rattle.sl_stages.specs.meaning.Seating.{cover_place}
-use Rattle.sl_stages.proofs.meaning.Members.{In, in_map, in_filter, in_range, among, among_piece}
+use Rattle.sl_law_meaning.specs.declared.election.Win.{Win}
+use Rattle.sl_law_meaning.specs.declared.table.Placed.{Placed}
+use Rattle.sl_law_meaning.specs.declared.table.Placed.TheVariants as placed
+use Rattle.sl_law_meaning.specs.returns.Election.{Election, IsElection, lands_of, parties_of, has_list}
+use Rattle.sl_law_meaning.specs.meaning.Seating.{cover_place}
+use Rattle.sl_law_meaning.proofs.meaning.Members.{In, in_map, in_filter, in_range, among, among_piece}
 use Rattle.sl_code_instructions.specs.Codes.{CountingCode}
 use Rattle.sl_code_semantics.specs.State.{State, with_register}
 use Rattle.sl_code_semantics.specs.Effects.{with_win}

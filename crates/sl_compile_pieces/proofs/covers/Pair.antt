@@ -1,17 +1,17 @@
 -- The plan of a contested pair of a Land and a party: the winners of its list are seated by their shares.
 use Rattle.std.proofs.Common.{◌≡◌, ℕ, zero, suc, ◌+◌, ◌-◌, ◌*◌, ◌<◌, ◌≤◌, Bool, true, min, List, [], ◌∷◌, ◌++◌, length, Some, slice_get, refl, sym, ap, ◌∙◌, arith}
 use Rattle.std.proofs.lemmas.List.{append-nil}
-use Rattle.sl_stages.specs.declared.returns.Win.{Win}
-use Rattle.sl_stages.specs.returns.Election.{Election, IsElection, lands_of, parties_of, wins_of}
-use Rattle.sl_stages.specs.returns.Facts.{list_cell}
-use Rattle.sl_stages.specs.methods.Ties.{Decided}
-use Rattle.sl_stages.specs.meaning.Seating.{IsSeating, seated_on, cover_place}
+use Rattle.sl_law_meaning.specs.declared.election.Win.{Win}
+use Rattle.sl_law_meaning.specs.returns.Election.{Election, IsElection, lands_of, parties_of, wins_of}
+use Rattle.sl_law_meaning.specs.returns.Facts.{list_cell}
+use Rattle.sl_law_meaning.specs.methods.Ties.{Decided}
+use Rattle.sl_law_meaning.specs.meaning.Seating.{IsSeating, seated_on, cover_place}
 use Rattle.sl_code_instructions.specs.Codes.{CountingCode}
 use Rattle.sl_code_instructions.specs.declared.instr.Instr.TheVariants.{Seat}
 use Rattle.sl_code_instructions.specs.declared.operand.Entries.TheVariants as entries
 use Rattle.sl_code_instructions.specs.declared.operand.Ranking.TheVariants as ranking
 use Rattle.sl_code_semantics.specs.declared.known.TheConstants.{LAST_CLAUSE}
-use Rattle.sl_prio.specs.Ranking.{ranked}
+use Rattle.sl_base_rankings.specs.Ranking.{ranked}
 use Rattle.sl_code_semantics.specs.State.{State, with_register}
 use Rattle.sl_code_semantics.specs.Effects.{most, with_table}
 use Rattle.sl_compile_plans.specs.declared.plan.Bound.TheVariants as bound

@@ -7,8 +7,8 @@ use Rattle.std.proofs.lemmas.List.{map-append}
 use Rattle.std.proofs.lemmas.List.Elements.{filter-append}
 use Rattle.std.proofs.lemmas.List.FromFn.{filter_of_map_range_with_len_more}
 use Rattle.std.proofs.lemmas.Nat.{div-mul-add, mod-mul-add}
-use Rattle.sl_stages.specs.returns.Election.{Election, lands_of, parties_of, has_list}
-use Rattle.sl_stages.specs.returns.Facts.{lists_of}
+use Rattle.sl_law_meaning.specs.returns.Election.{Election, lands_of, parties_of, has_list}
+use Rattle.sl_law_meaning.specs.returns.Facts.{lists_of}
 
 -- ---- two lists of pairs one after another
 

@@ -4,19 +4,19 @@ use Rattle.std.specs.Prelude.{codes}
 use Rattle.std.specs.List.Sorted.{IsStrictlyIncreasing}
 use Rattle.std.proofs.lemmas.List.{length-map}
 use Rattle.std.proofs.lemmas.List.Elements.{All-map}
-use Rattle.sl_stages.specs.declared.fault.Item.TheVariants as item
-use Rattle.sl_stages.specs.declared.returns.Win.{Win}
-use Rattle.sl_stages.specs.declared.table.Placed.TheVariants as placed
-use Rattle.sl_stages.specs.returns.Election.{Election, IsElection, wins_of, has_list}
-use Rattle.sl_stages.specs.returns.Facts.{list_cell}
-use Rattle.sl_stages.specs.methods.Ties.{Decided}
-use Rattle.sl_stages.specs.meaning.Scopes.{place}
-use Rattle.sl_stages.specs.meaning.Lots.{seats_lot}
-use Rattle.sl_stages.specs.meaning.Seating.{winner_items, seated_on, cover_place}
-use Rattle.sl_stages.specs.laws.Awards.{CoveringTops}
-use Rattle.sl_stages.proofs.methods.CoveringProofs.{covering_ladders_law}
-use Rattle.sl_stages.proofs.methods.RaisedSeats.{Contains-head, Contains-cases, Contains-none}
-use Rattle.sl_stages.proofs.methods.SeatSums.{sum_zeros}
+use Rattle.sl_law_meaning.specs.declared.fault.Item.TheVariants as item
+use Rattle.sl_law_meaning.specs.declared.election.Win.{Win}
+use Rattle.sl_law_meaning.specs.declared.table.Placed.TheVariants as placed
+use Rattle.sl_law_meaning.specs.returns.Election.{Election, IsElection, wins_of, has_list}
+use Rattle.sl_law_meaning.specs.returns.Facts.{list_cell}
+use Rattle.sl_law_meaning.specs.methods.Ties.{Decided}
+use Rattle.sl_law_meaning.specs.meaning.Scopes.{place}
+use Rattle.sl_law_meaning.specs.meaning.Lots.{seats_lot}
+use Rattle.sl_law_meaning.specs.meaning.Seating.{winner_items, seated_on, cover_place}
+use Rattle.sl_law_meaning.specs.laws.Awards.{CoveringTops}
+use Rattle.sl_law_meaning.proofs.methods.CoveringProofs.{covering_ladders_law}
+use Rattle.sl_law_meaning.proofs.methods.RaisedSeats.{Contains-head, Contains-cases, Contains-none}
+use Rattle.sl_law_meaning.proofs.methods.SeatSums.{sum_zeros}
 use Rattle.sl_code_instructions.specs.Codes.{CountingCode}
 use Rattle.sl_code_instructions.specs.declared.instr.Instr.TheVariants.{Seat}
 use Rattle.sl_code_instructions.specs.declared.operand.Entries.TheVariants as entries

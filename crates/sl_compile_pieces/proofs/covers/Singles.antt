@@ -3,11 +3,11 @@ use Rattle.std.proofs.Common.{◌≡◌, ◌≢◌, ℕ, ◌+◌, ◌<◌, ◌�
 use Rattle.std.specs.Prelude.{if◌then◌else◌}
 use Rattle.std.proofs.lemmas.Bool.{cases_eq, eq-eqb}
 use Rattle.std.proofs.lemmas.Option.{same_Some, slice_get_within}
-use Rattle.sl_stages.specs.declared.returns.Win.{Win}
-use Rattle.sl_stages.specs.declared.table.Placed.{Placed}
-use Rattle.sl_stages.specs.declared.table.Placed.TheVariants as placed
-use Rattle.sl_stages.specs.returns.Election.{Election}
-use Rattle.sl_stages.specs.meaning.Seating.{cover_place}
+use Rattle.sl_law_meaning.specs.declared.election.Win.{Win}
+use Rattle.sl_law_meaning.specs.declared.table.Placed.{Placed}
+use Rattle.sl_law_meaning.specs.declared.table.Placed.TheVariants as placed
+use Rattle.sl_law_meaning.specs.returns.Election.{Election}
+use Rattle.sl_law_meaning.specs.meaning.Seating.{cover_place}
 use Rattle.sl_code_instructions.specs.Codes.{CountingCode}
 use Rattle.sl_code_instructions.specs.declared.instr.Instr.TheVariants.{Single}
 use Rattle.sl_code_semantics.specs.State.{State, with_place}

@@ -2,26 +2,26 @@
 use Rattle.std.proofs.Common.{◌≡◌, ℕ, zero, suc, ◌+◌, ◌-◌, ◌≤◌, true, Bool, List, [], ◌∷◌, map, length, sum, Contains, Some, option_map, slice_get, slice_index, refl, sym, ap, ◌∙◌, arith}
 use Rattle.std.proofs.lemmas.List.Sorted.{IsPermutation-sym}
 use Rattle.std.proofs.lemmas.Option.{slice_get-map, slice_get_within}
-use Rattle.sl_ratio.specs.declared.entry.Entry.{Entry}
-use Rattle.sl_stages.specs.declared.fault.Item.TheVariants as item
-use Rattle.sl_stages.specs.declared.fault.FaultKind.TheVariants as fault
-use Rattle.sl_stages.specs.declared.fault.Scope.TheVariants as scope
-use Rattle.sl_stages.specs.declared.returns.Win.{Win}
-use Rattle.sl_stages.specs.returns.Election.{Election, IsElection, has_list}
-use Rattle.sl_stages.specs.methods.Ties.{Lists, Tied, IsChoice}
-use Rattle.sl_stages.specs.meaning.Splits.{entries_at}
-use Rattle.sl_stages.specs.meaning.Results.{fault_at}
-use Rattle.sl_stages.specs.meaning.Seating.{winner_items, IsSeating}
-use Rattle.sl_stages.specs.laws.Ladders.{IsPeer, IsSettled, IsTop, RaisesEach}
-use Rattle.sl_stages.proofs.methods.RaisedSeats.{raise, Contains-head, Contains-tail}
+use Rattle.sl_base_quotients.specs.declared.entry.Entry.{Entry}
+use Rattle.sl_law_meaning.specs.declared.fault.Item.TheVariants as item
+use Rattle.sl_law_meaning.specs.declared.fault.FaultKind.TheVariants as fault
+use Rattle.sl_law_meaning.specs.declared.fault.Scope.TheVariants as scope
+use Rattle.sl_law_meaning.specs.declared.election.Win.{Win}
+use Rattle.sl_law_meaning.specs.returns.Election.{Election, IsElection, has_list}
+use Rattle.sl_law_meaning.specs.methods.Ties.{Lists, Tied, IsChoice}
+use Rattle.sl_law_meaning.specs.meaning.Splits.{entries_at}
+use Rattle.sl_law_meaning.specs.meaning.Results.{fault_at}
+use Rattle.sl_law_meaning.specs.meaning.Seating.{winner_items, IsSeating}
+use Rattle.sl_law_meaning.specs.laws.Ladders.{IsPeer, IsSettled, IsTop, RaisesEach}
+use Rattle.sl_law_meaning.proofs.methods.RaisedSeats.{raise, Contains-head, Contains-tail}
 use Rattle.sl_code_instructions.specs.Codes.{CountingCode}
 use Rattle.sl_code_instructions.specs.declared.instr.Instr.TheVariants.{Take, Tie}
 use Rattle.sl_code_instructions.specs.declared.operand.Entries.TheVariants as entries
 use Rattle.sl_code_instructions.specs.declared.operand.ScopeKind.TheVariants as kind
 use Rattle.sl_code_semantics.specs.declared.known.TheConstants.{LAST_CLAUSE}
-use Rattle.sl_prio.specs.Ranking.{ranked}
-use Rattle.sl_prio.specs.Prio.{top, peers}
-use Rattle.sl_prio.proofs.RankedEntries.{ranked_alike}
+use Rattle.sl_base_rankings.specs.Ranking.{ranked}
+use Rattle.sl_base_rankings.specs.Peers.{top, peers}
+use Rattle.sl_base_rankings.proofs.RankedEntries.{ranked_alike}
 use Rattle.sl_code_semantics.specs.State.{State, PriorityTable, End, Faulted, with_register}
 use Rattle.sl_code_semantics.specs.Places.{item_of}
 use Rattle.sl_code_semantics.specs.Effects.{Goes, effect, with_party, with_land}

@@ -3,15 +3,15 @@ use Rattle.std.proofs.Common.{◌≡◌, ℕ, zero, suc, ◌<◌, ◌≤◌, Boo
 use Rattle.std.proofs.lemmas.Bool.{cases_lt, eq-eqb}
 use Rattle.std.proofs.lemmas.List.{length-map, get_or_past}
 use Rattle.std.proofs.lemmas.Nat.{div-add-mod'}
-use Rattle.sl_stages.specs.declared.returns.Win.{Win}
-use Rattle.sl_stages.specs.returns.Election.{Election, IsElection, parties_of}
-use Rattle.sl_stages.specs.returns.Facts.{list_cell}
-use Rattle.sl_stages.specs.methods.Covering.{IsCovering}
-use Rattle.sl_stages.specs.methods.Ties.{Choice, Decided, Tied, IsTied, IsChoice}
-use Rattle.sl_stages.specs.meaning.Seating.{IsSeating, seated_on}
-use Rattle.sl_stages.proofs.methods.CoveringProofs.{full_coverings}
-use Rattle.sl_stages.proofs.methods.SeatSums.{entry_le_sum}
-use Rattle.sl_stages.proofs.meaning.OneOutcome.{one_seating}
+use Rattle.sl_law_meaning.specs.declared.election.Win.{Win}
+use Rattle.sl_law_meaning.specs.returns.Election.{Election, IsElection, parties_of}
+use Rattle.sl_law_meaning.specs.returns.Facts.{list_cell}
+use Rattle.sl_law_meaning.specs.methods.Covering.{IsCovering}
+use Rattle.sl_law_meaning.specs.methods.Ties.{Choice, Decided, Tied, IsTied, IsChoice}
+use Rattle.sl_law_meaning.specs.meaning.Seating.{IsSeating, seated_on}
+use Rattle.sl_law_meaning.proofs.methods.CoveringProofs.{full_coverings}
+use Rattle.sl_law_meaning.proofs.methods.SeatSums.{entry_le_sum}
+use Rattle.sl_law_meaning.proofs.meaning.OneOutcome.{one_seating}
 use Rattle.sl_compile_pieces.proofs.covers.Pairs.{pair_at}
 use Rattle.sl_compile_pieces.proofs.covers.Winners.{won}
 use Rattle.sl_compile_pieces.proofs.covers.Contested.{many_at, is_contested, all_fit, at_once, nobody_without_seats, everybody_fits}

@@ -8,12 +8,12 @@ use Rattle.std.proofs.lemmas.List.{length-map, length-take, take_all}
 use Rattle.std.proofs.lemmas.List.Elements.{All-get_or, All-filter, filter_passes, filter_more}
 use Rattle.std.proofs.lemmas.List.Sums.{length-filter, count_by-le-length}
 use Rattle.std.proofs.lemmas.List.FromFn.{length-enumerate_from, get_or-enumerate_from, fill_by_all}
-use Rattle.sl_ratio.specs.declared.entry.Entry.{Entry}
-use Rattle.sl_stages.specs.declared.returns.Win.{Win}
-use Rattle.sl_stages.specs.returns.Election.{Election, wins_of, has_list}
-use Rattle.sl_stages.specs.returns.Facts.{is_in, is_of, has_eligible_list}
-use Rattle.sl_stages.specs.meaning.Seating.{winners_of}
-use Rattle.sl_stages.proofs.methods.SeatSums.{none_needed}
+use Rattle.sl_base_quotients.specs.declared.entry.Entry.{Entry}
+use Rattle.sl_law_meaning.specs.declared.election.Win.{Win}
+use Rattle.sl_law_meaning.specs.returns.Election.{Election, wins_of, has_list}
+use Rattle.sl_law_meaning.specs.returns.Facts.{is_in, is_of, has_eligible_list}
+use Rattle.sl_law_meaning.specs.meaning.Seating.{winners_of}
+use Rattle.sl_law_meaning.proofs.methods.SeatSums.{none_needed}
 use Rattle.sl_compile_pieces.specs.arenas.Arenas.{Arena, seat_of, next_seat, waiting, covering_arena}
 use Rattle.sl_compile_pieces.proofs.seats.Lists.{mapped_at}
 use Rattle.sl_compile_plans.proofs.KeepingRules.{element_there}

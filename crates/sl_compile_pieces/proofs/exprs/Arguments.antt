@@ -1,9 +1,9 @@
 -- Columns that come one after another: the arguments of an expression, from left to right, and then its own.
 use Rattle.std.proofs.Common.{ℕ, ◌+◌, ◌<◌, ◌≤◌, List, [], ◌∷◌, ◌++◌, refl, ◌∙◌, inl, arith}
 use Rattle.sl_base_terms.specs.declared.shape.Shape.{Shape}
-use Rattle.sl_stages.specs.returns.Election.{Election}
-use Rattle.sl_stages.specs.meaning.Records.{Records, no_records, both_records}
-use Rattle.sl_stages.specs.meaning.Results.{ExprResult, Column, Fault, plain, behind, Then}
+use Rattle.sl_law_meaning.specs.returns.Election.{Election}
+use Rattle.sl_law_meaning.specs.meaning.Records.{Records, no_records, both_records}
+use Rattle.sl_law_meaning.specs.meaning.Results.{ExprResult, Column, Fault, plain, behind, Then}
 use Rattle.sl_code_instructions.specs.Codes.{CountingCode}
 use Rattle.sl_code_semantics.specs.State.{State, End}
 use Rattle.sl_compile_plans.specs.Trees.{Tree}

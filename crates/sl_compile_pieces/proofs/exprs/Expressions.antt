@@ -2,24 +2,24 @@
 use Rattle.std.proofs.Common.{◌≡◌, ℕ, ◌+◌, ◌<◌, ◌≤◌, true, List, [], ◌∷◌, ◌++◌, All, None, Some, refl, subst, inr, arith}
 use Rattle.std.specs.Prelude.{position, unwrap_or}
 use Rattle.std.specs.List.{AllZip}
-use Rattle.sl_ratio.specs.declared.limits.TheConstants.{MAX_WEIGHT}
-use Rattle.sl_ratio.specs.declared.method.Method.TheVariants as by
-use Rattle.sl_stages.specs.declared.book.Axis.{Axis}
-use Rattle.sl_stages.specs.declared.book.Pairing.{Pairing}
+use Rattle.sl_base_quotients.specs.declared.limits.TheConstants.{MAX_WEIGHT}
+use Rattle.sl_base_quotients.specs.declared.method.Method.TheVariants as by
+use Rattle.sl_law_meaning.specs.declared.book.Axis.{Axis}
+use Rattle.sl_law_meaning.specs.declared.book.Pairing.{Pairing}
 use Rattle.sl_base_terms.specs.declared.shape.Shape.{Shape}
-use Rattle.sl_stages.specs.book.Limits.{depth_of}
+use Rattle.sl_law_meaning.specs.book.Limits.{depth_of}
 use Rattle.sl_base_terms.specs.Tests.{first_failing}
-use Rattle.sl_stages.specs.book.Trees.{ExprTree, fact, name, sum, pair, split, without, atleast, grow, BookTree}
-use Rattle.sl_stages.specs.book.Typing.{is_typed, fact_type, type_of, expr_tests, splits_in, is_named}
-use Rattle.sl_stages.specs.returns.Election.{Election, IsElection}
-use Rattle.sl_stages.specs.meaning.Columns.{sum_over, pair_of, fact_column}
-use Rattle.sl_stages.specs.meaning.Records.{Records, no_records, both_records}
-use Rattle.sl_stages.specs.meaning.Results.{Column, plain, Then}
-use Rattle.sl_stages.specs.meaning.Expressions.{Context, shape_in, stand, ExprMeans, IsSplit, IsGrown}
-use Rattle.sl_stages.specs.laws.ColumnLaws.{IsTypedAs}
+use Rattle.sl_law_meaning.specs.book.Trees.{ExprTree, fact, name, sum, pair, split, without, atleast, grow, BookTree}
+use Rattle.sl_law_meaning.specs.book.Typing.{is_typed, fact_type, type_of, expr_tests, splits_in, is_named}
+use Rattle.sl_law_meaning.specs.returns.Election.{Election, IsElection}
+use Rattle.sl_law_meaning.specs.meaning.Columns.{sum_over, pair_of, fact_column}
+use Rattle.sl_law_meaning.specs.meaning.Records.{Records, no_records, both_records}
+use Rattle.sl_law_meaning.specs.meaning.Results.{Column, plain, Then}
+use Rattle.sl_law_meaning.specs.meaning.Expressions.{Context, shape_in, stand, ExprMeans, IsSplit, IsGrown}
+use Rattle.sl_law_meaning.specs.laws.ColumnLaws.{IsTypedAs}
 use Rattle.sl_base_terms.proofs.Tests.{head_holds, pass_parts}
-use Rattle.sl_stages.proofs.typing.TestLists.{pass_parts3, pass_parts4}
-use Rattle.sl_stages.proofs.meaning.TypedMeaning.{typed_expressions}
+use Rattle.sl_law_meaning.proofs.typing.TestLists.{pass_parts3, pass_parts4}
+use Rattle.sl_law_meaning.proofs.meaning.TypedMeaning.{typed_expressions}
 use Rattle.sl_code_instructions.specs.Codes.{CountingCode}
 use Rattle.sl_code_semantics.specs.State.{State}
 use Rattle.sl_code_semantics.specs.Effects.{most}

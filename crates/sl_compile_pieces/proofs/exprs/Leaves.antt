@@ -5,14 +5,14 @@ use Rattle.std.specs.List.{AllZip, list_any, position_or_len, prefix_len}
 use Rattle.std.specs.Str.{bytes_eq}
 use Rattle.std.proofs.lemmas.Bool.{cases_Bool, cond-true, cond-false, false≢true, lt-ltb}
 use Rattle.sl_base_terms.specs.declared.shape.Shape.{Shape}
-use Rattle.sl_stages.specs.declared.limits.TheConstants.{MAX_DEPTH}
-use Rattle.sl_stages.specs.book.Trees.{BookTree}
-use Rattle.sl_stages.specs.book.Typing.{Column, is_named, type_or_one}
-use Rattle.sl_stages.specs.returns.Election.{Election}
-use Rattle.sl_stages.specs.meaning.Columns.{NamedColumn, is_column_of}
-use Rattle.sl_stages.specs.meaning.Records.{no_records}
-use Rattle.sl_stages.specs.meaning.Results.{ExprResult, plain}
-use Rattle.sl_stages.specs.laws.ColumnLaws.{IsTypedAs}
+use Rattle.sl_law_meaning.specs.declared.limits.TheConstants.{MAX_DEPTH}
+use Rattle.sl_law_meaning.specs.book.Trees.{BookTree}
+use Rattle.sl_law_meaning.specs.book.Typing.{Column, is_named, type_or_one}
+use Rattle.sl_law_meaning.specs.returns.Election.{Election}
+use Rattle.sl_law_meaning.specs.meaning.Columns.{NamedColumn, is_column_of}
+use Rattle.sl_law_meaning.specs.meaning.Records.{no_records}
+use Rattle.sl_law_meaning.specs.meaning.Results.{ExprResult, plain}
+use Rattle.sl_law_meaning.specs.laws.ColumnLaws.{IsTypedAs}
 use Rattle.sl_code_instructions.specs.Codes.{CountingCode}
 use Rattle.sl_code_semantics.specs.State.{State}
 use Rattle.sl_compile_pieces.specs.columns.Columns.{HoldsColumn}

@@ -1,22 +1,22 @@
 -- The levels of an expression's arguments, and what its tests say of their types.
 use Rattle.std.proofs.Common.{◌≡◌, ℕ, ◌+◌, ◌≤◌, max, true, None, Some, List, refl, sym, ap, subst, arith}
-use Rattle.sl_ratio.specs.declared.limits.TheConstants.{MAX_SEATS}
-use Rattle.sl_ratio.specs.declared.method.Divisor.{Divisor}
-use Rattle.sl_ratio.specs.declared.method.Method.{Method}
-use Rattle.sl_ratio.specs.declared.method.Method.TheVariants as by
-use Rattle.sl_stages.specs.declared.book.Majority.{Majority}
-use Rattle.sl_stages.specs.declared.book.Number.{Number}
+use Rattle.sl_base_quotients.specs.declared.limits.TheConstants.{MAX_SEATS}
+use Rattle.sl_base_quotients.specs.declared.method.Divisor.{Divisor}
+use Rattle.sl_base_quotients.specs.declared.method.Method.{Method}
+use Rattle.sl_base_quotients.specs.declared.method.Method.TheVariants as by
+use Rattle.sl_law_meaning.specs.declared.book.Majority.{Majority}
+use Rattle.sl_law_meaning.specs.declared.book.Number.{Number}
 use Rattle.sl_base_terms.specs.declared.shape.Shape.TheVariants as shape
-use Rattle.sl_stages.specs.declared.book.Unit.TheVariants as unit
-use Rattle.sl_stages.specs.declared.book.ColumnType.{ColumnType}
-use Rattle.sl_stages.specs.declared.limits.TheConstants.{MAX_DEPTH}
+use Rattle.sl_law_meaning.specs.declared.book.Unit.TheVariants as unit
+use Rattle.sl_law_meaning.specs.declared.book.ColumnType.{ColumnType}
+use Rattle.sl_law_meaning.specs.declared.limits.TheConstants.{MAX_DEPTH}
 use Rattle.sl_base_terms.specs.Tests.{first_failing}
-use Rattle.sl_stages.specs.book.Trees.{ExprTree, fact, split, without}
-use Rattle.sl_stages.specs.book.Limits.{depth_of}
-use Rattle.sl_stages.specs.book.Typing.{splits_in, column, can_split, pair_tests, split_tests, split_from_tests, grow_tests}
-use Rattle.sl_stages.specs.laws.OneLaws.{FitsMethod}
-use Rattle.sl_stages.proofs.typing.TestLists.{hold_all, splits_can}
-use Rattle.sl_stages.proofs.typing.NodeLaws.{pair_has, split_from_has, grow_has}
+use Rattle.sl_law_meaning.specs.book.Trees.{ExprTree, fact, split, without}
+use Rattle.sl_law_meaning.specs.book.Limits.{depth_of}
+use Rattle.sl_law_meaning.specs.book.Typing.{splits_in, column, can_split, pair_tests, split_tests, split_from_tests, grow_tests}
+use Rattle.sl_law_meaning.specs.laws.OneLaws.{FitsMethod}
+use Rattle.sl_law_meaning.proofs.typing.TestLists.{hold_all, splits_can}
+use Rattle.sl_law_meaning.proofs.typing.NodeLaws.{pair_has, split_from_has, grow_has}
 use Rattle.sl_compile_pieces.specs.declared.slots.TheConstants.{LEVELS}
 
 -- ---- levels

@@ -5,21 +5,21 @@ use Rattle.std.proofs.lemmas.Bool.{and_parts, leb-true}
 use Rattle.std.proofs.lemmas.Option.{slice_get_within}
 use Rattle.std.proofs.lemmas.Slice.Zip.{AllZip-long, all_zipped_more}
 use Rattle.sl_base_terms.specs.declared.shape.Shape.{Shape}
-use Rattle.sl_stages.specs.declared.limits.TheConstants.{MAX_DEPTH, MAX_PARTS}
+use Rattle.sl_law_meaning.specs.declared.limits.TheConstants.{MAX_DEPTH, MAX_PARTS}
 use Rattle.sl_base_terms.specs.declared.limits.TheConstants.{MAX_STAGES}
 use Rattle.sl_base_terms.specs.Tests.{first_failing}
-use Rattle.sl_stages.specs.book.Trees.{StageTree, BookTree}
-use Rattle.sl_stages.specs.book.Limits.{depth_of, parts_of, is_within_stage}
-use Rattle.sl_stages.specs.book.Typing.{Column, type_of, splits_in, expr_tests, stage_column, columns_of, stages_tests, is_typed}
-use Rattle.sl_stages.specs.returns.Election.{Election, IsElection}
-use Rattle.sl_stages.specs.meaning.Columns.{NamedColumn}
-use Rattle.sl_stages.specs.meaning.Records.{Records}
-use Rattle.sl_stages.specs.meaning.Results as results
-use Rattle.sl_stages.specs.meaning.Expressions.{ExprMeans}
-use Rattle.sl_stages.specs.meaning.Means.{Known, context_of, with_stage}
-use Rattle.sl_stages.specs.laws.ColumnLaws.{IsTypedAs}
+use Rattle.sl_law_meaning.specs.book.Trees.{StageTree, BookTree}
+use Rattle.sl_law_meaning.specs.book.Limits.{depth_of, parts_of, is_within_stage}
+use Rattle.sl_law_meaning.specs.book.Typing.{Column, type_of, splits_in, expr_tests, stage_column, columns_of, stages_tests, is_typed}
+use Rattle.sl_law_meaning.specs.returns.Election.{Election, IsElection}
+use Rattle.sl_law_meaning.specs.meaning.Columns.{NamedColumn}
+use Rattle.sl_law_meaning.specs.meaning.Records.{Records}
+use Rattle.sl_law_meaning.specs.meaning.Results as results
+use Rattle.sl_law_meaning.specs.meaning.Expressions.{ExprMeans}
+use Rattle.sl_law_meaning.specs.meaning.Means.{Known, context_of, with_stage}
+use Rattle.sl_law_meaning.specs.laws.ColumnLaws.{IsTypedAs}
 use Rattle.sl_base_terms.proofs.Tests.{head_holds, pass_parts}
-use Rattle.sl_stages.proofs.meaning.TypedMeaning.{typed_expressions}
+use Rattle.sl_law_meaning.proofs.meaning.TypedMeaning.{typed_expressions}
 use Rattle.sl_code_instructions.specs.Codes.{CountingCode}
 use Rattle.sl_code_semantics.specs.State.{State, End}
 use Rattle.sl_compile_plans.specs.Trees.{Tree}

@@ -2,21 +2,21 @@
 use Rattle.std.proofs.Common.{◌≡◌, ℕ, ◌+◌, ◌≤◌, true, List, [], ◌∷◌, All, Some, slice_get, refl, subst, arith}
 use Rattle.std.proofs.lemmas.Bool.{false≢true}
 use Rattle.std.proofs.lemmas.List.Elements.{All-weaker}
-use Rattle.sl_ratio.specs.declared.limits.TheConstants.{MAX_WEIGHT}
-use Rattle.sl_stages.specs.declared.book.Axis.{Axis}
-use Rattle.sl_stages.specs.declared.book.Axis.TheVariants as axis
-use Rattle.sl_stages.specs.declared.book.Pairing.{Pairing}
+use Rattle.sl_base_quotients.specs.declared.limits.TheConstants.{MAX_WEIGHT}
+use Rattle.sl_law_meaning.specs.declared.book.Axis.{Axis}
+use Rattle.sl_law_meaning.specs.declared.book.Axis.TheVariants as axis
+use Rattle.sl_law_meaning.specs.declared.book.Pairing.{Pairing}
 use Rattle.sl_base_terms.specs.declared.shape.Shape.{Shape}
 use Rattle.sl_base_terms.specs.declared.shape.Shape.TheVariants as shape
-use Rattle.sl_stages.specs.declared.book.Unit.{Unit as Units}
-use Rattle.sl_stages.specs.declared.book.Unit.TheVariants as unit
-use Rattle.sl_stages.specs.declared.book.ColumnType.{ColumnType}
-use Rattle.sl_stages.specs.declared.limits.TheConstants.{MAX_DEPTH}
-use Rattle.sl_stages.specs.book.Typing.{column, can_sum, shape_over}
-use Rattle.sl_stages.specs.returns.Election.{Election}
-use Rattle.sl_stages.specs.meaning.Columns.{sum_over, pair_of}
-use Rattle.sl_stages.specs.meaning.Results.{ExprResult, plain}
-use Rattle.sl_stages.specs.laws.ColumnLaws.{most_of, FitsType}
+use Rattle.sl_law_meaning.specs.declared.book.Unit.{Unit as Units}
+use Rattle.sl_law_meaning.specs.declared.book.Unit.TheVariants as unit
+use Rattle.sl_law_meaning.specs.declared.book.ColumnType.{ColumnType}
+use Rattle.sl_law_meaning.specs.declared.limits.TheConstants.{MAX_DEPTH}
+use Rattle.sl_law_meaning.specs.book.Typing.{column, can_sum, shape_over}
+use Rattle.sl_law_meaning.specs.returns.Election.{Election}
+use Rattle.sl_law_meaning.specs.meaning.Columns.{sum_over, pair_of}
+use Rattle.sl_law_meaning.specs.meaning.Results.{ExprResult, plain}
+use Rattle.sl_law_meaning.specs.laws.ColumnLaws.{most_of, FitsType}
 use Rattle.sl_code_instructions.specs.Codes.{CountingCode}
 use Rattle.sl_code_semantics.specs.State.{State}
 use Rattle.sl_code_semantics.specs.Effects.{most}

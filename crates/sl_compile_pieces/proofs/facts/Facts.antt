@@ -3,15 +3,15 @@ use Rattle.std.proofs.Common.{inl, inr, ◌≡◌, ◌≢◌, ℕ, ◌+◌, ◌*
 use Rattle.std.specs.Prelude.{unwrap_or}
 use Rattle.std.proofs.lemmas.Bool.{ne_eqb, cases_eq}
 use Rattle.std.proofs.lemmas.Nat.{same_from_place}
-use Rattle.sl_stages.specs.declared.book.Cond.{Cond}
+use Rattle.sl_law_meaning.specs.declared.book.Cond.{Cond}
 use Rattle.sl_base_terms.specs.declared.shape.Shape.TheVariants as shape
-use Rattle.sl_stages.specs.declared.fact.Fact.{Fact}
-use Rattle.sl_stages.specs.declared.fact.Fact.TheVariants as facts
-use Rattle.sl_stages.specs.book.Typing.{fact_type}
-use Rattle.sl_stages.specs.meaning.Columns.{fact_column}
-use Rattle.sl_stages.specs.returns.Votes.{counted_in}
-use Rattle.sl_stages.specs.returns.Election.{Election, IsElection, lands_of, parties_of, list_at}
-use Rattle.sl_stages.specs.returns.Facts.{is_eligible, counted_votes}
+use Rattle.sl_law_meaning.specs.declared.fact.Fact.{Fact}
+use Rattle.sl_law_meaning.specs.declared.fact.Fact.TheVariants as facts
+use Rattle.sl_law_meaning.specs.book.Typing.{fact_type}
+use Rattle.sl_law_meaning.specs.meaning.Columns.{fact_column}
+use Rattle.sl_law_meaning.specs.returns.Votes.{counted_in}
+use Rattle.sl_law_meaning.specs.returns.Election.{Election, IsElection, lands_of, parties_of, list_at}
+use Rattle.sl_law_meaning.specs.returns.Facts.{is_eligible, counted_votes}
 use Rattle.sl_code_instructions.specs.declared.instr.Instr.TheVariants.{Store, House}
 use Rattle.sl_code_instructions.specs.declared.operand.Input.TheVariants as input
 use Rattle.sl_code_instructions.specs.Codes.{CountingCode}

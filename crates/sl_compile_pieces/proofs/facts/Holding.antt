@@ -5,10 +5,10 @@ use Rattle.std.proofs.lemmas.Nat.{div-add-mod'}
 use Rattle.std.proofs.lemmas.List.FromFn.{length-map-range_with_len, get_or-map-range_with_len}
 use Rattle.sl_base_terms.specs.declared.shape.Shape.{Shape}
 use Rattle.sl_base_terms.specs.declared.shape.Shape.TheVariants as shape
-use Rattle.sl_stages.specs.declared.returns.ListVotes.{ListVotes}
-use Rattle.sl_stages.specs.returns.Election.{Election, lands_of, parties_of, list_at}
-use Rattle.sl_stages.specs.returns.Facts.{by_party, by_land, by_list}
-use Rattle.sl_stages.proofs.meaning.ListPlaces.{length_by_list, by_list_at}
+use Rattle.sl_law_meaning.specs.declared.election.ListVotes.{ListVotes}
+use Rattle.sl_law_meaning.specs.returns.Election.{Election, lands_of, parties_of, list_at}
+use Rattle.sl_law_meaning.specs.returns.Facts.{by_party, by_land, by_list}
+use Rattle.sl_law_meaning.proofs.meaning.ListPlaces.{length_by_list, by_list_at}
 use Rattle.sl_code_instructions.specs.Codes.{CountingCode}
 use Rattle.sl_code_semantics.specs.State.{State}
 use Rattle.sl_code_semantics.specs.Effects.{from_lists}

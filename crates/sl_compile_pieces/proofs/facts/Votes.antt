@@ -6,15 +6,15 @@ use Rattle.std.proofs.Math.Nat.{mul_comm}
 use Rattle.std.proofs.lemmas.Nat.{mul-le}
 use Rattle.std.proofs.lemmas.List.Elements.{All-nil}
 use Rattle.std.proofs.lemmas.Option.{none-some}
-use Rattle.sl_ratio.specs.declared.limits.TheConstants.{MAX_WEIGHT, MAX_VOTES, MAX_LANDS}
-use Rattle.sl_stages.specs.declared.book.Cond.TheVariants as condition
-use Rattle.sl_stages.specs.declared.book.Number.{Number}
+use Rattle.sl_base_quotients.specs.declared.limits.TheConstants.{MAX_WEIGHT, MAX_VOTES, MAX_LANDS}
+use Rattle.sl_law_meaning.specs.declared.book.Cond.TheVariants as condition
+use Rattle.sl_law_meaning.specs.declared.book.Number.{Number}
 use Rattle.sl_base_terms.specs.declared.shape.Shape.TheVariants as shape
-use Rattle.sl_stages.specs.declared.limits.TheConstants.{MAX_PER}
-use Rattle.sl_stages.specs.declared.returns.ListVotes.{ListVotes}
-use Rattle.sl_stages.specs.returns.Votes.{valid_in}
-use Rattle.sl_stages.specs.returns.Election.{Election, IsElection, IsCell, lands_of, parties_of, list_at}
-use Rattle.sl_stages.specs.returns.Facts.{valid_votes, all_valid_votes, meets}
+use Rattle.sl_law_meaning.specs.declared.limits.TheConstants.{MAX_PER}
+use Rattle.sl_law_meaning.specs.declared.election.ListVotes.{ListVotes}
+use Rattle.sl_law_meaning.specs.returns.Votes.{valid_in}
+use Rattle.sl_law_meaning.specs.returns.Election.{Election, IsElection, IsCell, lands_of, parties_of, list_at}
+use Rattle.sl_law_meaning.specs.returns.Facts.{valid_votes, all_valid_votes, meets}
 use Rattle.sl_code_instructions.specs.declared.instr.Instr.{Instr}
 use Rattle.sl_code_instructions.specs.declared.instr.Instr.TheVariants.{Set, Add, Mul, Get}
 use Rattle.sl_code_instructions.specs.declared.operand.Input.TheVariants as input

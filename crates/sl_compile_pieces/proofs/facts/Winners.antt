@@ -2,15 +2,15 @@
 use Rattle.std.proofs.Common.{◌≡◌, ◌≢◌, ℕ, suc, ◌+◌, ◌*◌, ◌/◌, ◌%◌, ◌<◌, Bool, true, false, not, ◌&&◌, List, [], ◌∷◌, Option, Some, None, is_none, nat_eq, slice_get, count_by, if◌then◌else◌, refl, sym, ap, ◌∙◌, inl, inr, arith}
 use Rattle.std.proofs.lemmas.Bool.{cases_Bool, and_parts, and_from, and_left, and_right, eqb-true, eq-eqb, ne_eqb}
 use Rattle.std.proofs.lemmas.Nat.{div-add-mod'}
-use Rattle.sl_stages.specs.declared.book.Cond.{Cond}
+use Rattle.sl_law_meaning.specs.declared.book.Cond.{Cond}
 use Rattle.sl_base_terms.specs.declared.shape.Shape.{Shape}
 use Rattle.sl_base_terms.specs.declared.shape.Shape.TheVariants as shape
-use Rattle.sl_stages.specs.declared.fact.Fact.TheVariants as facts
-use Rattle.sl_stages.specs.declared.returns.Win.{Win}
-use Rattle.sl_stages.specs.returns.Election.{Election, IsElection, parties_of, has_list}
-use Rattle.sl_stages.specs.returns.Facts.{is_of, is_in, is_eligible, takes_part, is_on_list, list_winners, outside_winners, independent_winners}
-use Rattle.sl_stages.proofs.FactReadings.{lists_are_named}
-use Rattle.sl_stages.proofs.meaning.PlacedWinners.{count_if, when_both}
+use Rattle.sl_law_meaning.specs.declared.fact.Fact.TheVariants as facts
+use Rattle.sl_law_meaning.specs.declared.election.Win.{Win}
+use Rattle.sl_law_meaning.specs.returns.Election.{Election, IsElection, parties_of, has_list}
+use Rattle.sl_law_meaning.specs.returns.Facts.{is_of, is_in, is_eligible, takes_part, is_on_list, list_winners, outside_winners, independent_winners}
+use Rattle.sl_law_meaning.proofs.FactReadings.{lists_are_named}
+use Rattle.sl_law_meaning.proofs.meaning.PlacedWinners.{count_if, when_both}
 use Rattle.sl_code_instructions.specs.declared.instr.Instr.TheVariants.{Zero, Wland}
 use Rattle.sl_code_instructions.specs.Codes.{CountingCode}
 use Rattle.sl_code_semantics.specs.State.{State, with_register, with_column}

@@ -2,10 +2,10 @@
 use Rattle.std.proofs.Common.{◌≡◌, ℕ, zero, suc, Bool, true, false, ◌==◌, Option, Some, if◌then◌else◌, refl, sym, subst, ◌∙◌, arith}
 use Rattle.std.specs.Prelude.{nat_lt}
 use Rattle.std.proofs.lemmas.Bool.{eqb-true, lt-ltb}
-use Rattle.sl_ratio.specs.declared.method.Divisor.{Divisor}
+use Rattle.sl_base_quotients.specs.declared.method.Divisor.{Divisor}
 use Rattle.sl_base_terms.specs.declared.shape.Shape.{Shape}
-use Rattle.sl_stages.specs.declared.book.Majority.{Majority}
-use Rattle.sl_stages.specs.declared.book.Majority.TheVariants as majority
+use Rattle.sl_law_meaning.specs.declared.book.Majority.{Majority}
+use Rattle.sl_law_meaning.specs.declared.book.Majority.TheVariants as majority
 use Rattle.sl_code_semantics.specs.Kinds.{start_kinds}
 use Rattle.sl_compile_plans.specs.Fine.{is_fine, judged_by}
 use Rattle.sl_compile_pieces.specs.declared.form.Form.{Form}

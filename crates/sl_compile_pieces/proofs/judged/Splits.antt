@@ -1,11 +1,11 @@
 -- What the verifier finds in the plan of a split, which numbers it sets registers to, and what it costs.
 use Rattle.std.proofs.Common.{◌≡◌, ℕ, true, Option, None, refl}
-use Rattle.sl_ratio.specs.declared.method.Divisor.TheVariants as divisor
-use Rattle.sl_ratio.specs.declared.method.Method.{Method}
-use Rattle.sl_ratio.specs.declared.method.Method.TheVariants as by
+use Rattle.sl_base_quotients.specs.declared.method.Divisor.TheVariants as divisor
+use Rattle.sl_base_quotients.specs.declared.method.Method.{Method}
+use Rattle.sl_base_quotients.specs.declared.method.Method.TheVariants as by
 use Rattle.sl_base_terms.specs.declared.shape.Shape.{Shape}
-use Rattle.sl_stages.specs.declared.book.Majority.{Majority}
-use Rattle.sl_stages.specs.declared.book.Majority.TheVariants as majority
+use Rattle.sl_law_meaning.specs.declared.book.Majority.{Majority}
+use Rattle.sl_law_meaning.specs.declared.book.Majority.TheVariants as majority
 use Rattle.sl_code_semantics.specs.Kinds.{start_kinds}
 use Rattle.sl_compile_plans.specs.Fine.{is_fine, judged_by}
 use Rattle.sl_compile_pieces.specs.declared.form.Form.{Form}

@@ -1,7 +1,7 @@
 -- Records that are added: none, or those of one plan after those of another.
 use Rattle.std.proofs.Common.{◌≡◌, ℕ, [], ◌++◌, sym, ap, ◌∙◌, append_assoc, append-nil}
 use Rattle.std.proofs.lemmas.List.Sorted.{IsPermutation-refl, IsPermutation-append}
-use Rattle.sl_stages.specs.meaning.Records.{Records, no_records, both_records}
+use Rattle.sl_law_meaning.specs.meaning.Records.{Records, no_records, both_records}
 use Rattle.sl_code_semantics.specs.State.{State}
 use Rattle.sl_compile_pieces.specs.nodes.Scopes.{AddsRecords}
 

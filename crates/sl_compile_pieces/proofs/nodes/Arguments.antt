@@ -3,17 +3,17 @@ use Rattle.std.proofs.Common.{◌≡◌, ℕ, ◌≤◌, List, All, length, Opti
 use Rattle.std.specs.Prelude.{slice_get, slice_index, is_none}
 use Rattle.std.proofs.lemmas.List.{length-map}
 use Rattle.std.proofs.lemmas.List.Elements.{All-from_get_or, All-map}
-use Rattle.sl_ratio.specs.declared.method.Method.{Method}
-use Rattle.sl_ratio.specs.declared.method.Method.TheVariants as by
+use Rattle.sl_base_quotients.specs.declared.method.Method.{Method}
+use Rattle.sl_base_quotients.specs.declared.method.Method.TheVariants as by
 use Rattle.sl_base_terms.specs.declared.shape.Shape.{Shape}
-use Rattle.sl_stages.specs.declared.fault.Item.{Item}
-use Rattle.sl_stages.specs.declared.fault.Item.TheVariants as item
-use Rattle.sl_stages.specs.returns.Election.{Election}
-use Rattle.sl_stages.specs.meaning.Scopes.{Group, place, cells}
-use Rattle.sl_stages.specs.meaning.Expressions.{minima_at}
-use Rattle.sl_stages.specs.laws.OneLaws.{FitsMethod}
-use Rattle.sl_stages.proofs.methods.SeatSums.{length_zeros, sum_zeros}
-use Rattle.sl_stages.proofs.meaning.OneAward.{TakesMinima}
+use Rattle.sl_law_meaning.specs.declared.fault.Item.{Item}
+use Rattle.sl_law_meaning.specs.declared.fault.Item.TheVariants as item
+use Rattle.sl_law_meaning.specs.returns.Election.{Election}
+use Rattle.sl_law_meaning.specs.meaning.Scopes.{Group, place, cells}
+use Rattle.sl_law_meaning.specs.meaning.Expressions.{minima_at}
+use Rattle.sl_law_meaning.specs.laws.OneLaws.{FitsMethod}
+use Rattle.sl_law_meaning.proofs.methods.SeatSums.{length_zeros, sum_zeros}
+use Rattle.sl_law_meaning.proofs.meaning.OneAward.{TakesMinima}
 use Rattle.sl_code_semantics.specs.State.{State}
 use Rattle.sl_compile_pieces.specs.scopes.Forms.{Form, votes_of, groups_of}
 use Rattle.sl_compile_pieces.proofs.scopes.Scopes.{scopes_hold}

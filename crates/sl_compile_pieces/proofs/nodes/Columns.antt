@@ -6,15 +6,15 @@ use Rattle.std.proofs.lemmas.Bool.{and_parts, cases_eq, false_from_ne_true}
 use Rattle.std.proofs.lemmas.List.FromFn.{length-map-range_with_len}
 use Rattle.std.proofs.lemmas.Option.{none-some, same_Some, slice_get_within, slice_get-get_or}
 use Rattle.sl_base_terms.specs.declared.shape.Shape.TheVariants as shape
-use Rattle.sl_stages.specs.declared.fault.Item.{Item}
-use Rattle.sl_stages.specs.declared.fault.Item.TheVariants as item
-use Rattle.sl_stages.specs.returns.Election.{Election, lands_of, parties_of}
-use Rattle.sl_stages.specs.meaning.Scopes.{Group, same_item, place, told_of, pair_column}
-use Rattle.sl_stages.specs.meaning.Splits.{Award, Seats, awarded}
-use Rattle.sl_stages.proofs.meaning.AwardedEntries.{told_entry, scope_entries_differ, party_cell, land_cell, pair_cell}
-use Rattle.sl_stages.proofs.meaning.DistinctLists.{every_weaker, every_pieces, every_zipped}
-use Rattle.sl_stages.proofs.meaning.ListPlaces.{length_by_list}
-use Rattle.sl_stages.proofs.meaning.TypedSplits.{told_none}
+use Rattle.sl_law_meaning.specs.declared.fault.Item.{Item}
+use Rattle.sl_law_meaning.specs.declared.fault.Item.TheVariants as item
+use Rattle.sl_law_meaning.specs.returns.Election.{Election, lands_of, parties_of}
+use Rattle.sl_law_meaning.specs.meaning.Scopes.{Group, same_item, place, told_of, pair_column}
+use Rattle.sl_law_meaning.specs.meaning.Splits.{Award, Seats, awarded}
+use Rattle.sl_law_meaning.proofs.meaning.AwardedEntries.{told_entry, scope_entries_differ, party_cell, land_cell, pair_cell}
+use Rattle.sl_law_meaning.proofs.meaning.DistinctLists.{every_weaker, every_pieces, every_zipped}
+use Rattle.sl_law_meaning.proofs.meaning.ListPlaces.{length_by_list}
+use Rattle.sl_law_meaning.proofs.meaning.TypedSplits.{told_none}
 use Rattle.sl_code_instructions.specs.declared.operand.Entries.{Entries}
 use Rattle.sl_code_instructions.specs.declared.operand.Entries.TheVariants as entries
 use Rattle.sl_code_semantics.specs.Places.{cells_of, item_of}

@@ -1,20 +1,20 @@
 -- The least number of seats with which all minima of the field are met, as batches of peers find it, and what a growth comes to by it.
 use Rattle.std.proofs.Common.{◌≡◌, ◌↔◌, ℕ, ◌+◌, ◌<◌, ◌≤◌, max, List, [], length, sum, sym, subst, arith}
 use Rattle.std.specs.Prelude.{slice_index}
-use Rattle.sl_ratio.specs.declared.method.Divisor.{Divisor}
-use Rattle.sl_stages.specs.methods.Field.{InField, no_minima}
-use Rattle.sl_stages.specs.methods.LeastHouse.{outside_sum, AllMeet, GrownTo, AboveCap, IsGrowth}
-use Rattle.sl_stages.specs.methods.Ties.{Lists}
-use Rattle.sl_stages.specs.laws.Ladders.{AreFalling, IsSettled, IsPeer}
-use Rattle.sl_stages.specs.laws.Awards.{GrowthLaws, free_ladders}
-use Rattle.sl_stages.specs.laws.Walks.{MidBatch}
-use Rattle.sl_stages.proofs.methods.DivisorProofs.{has_of, divisor_ladders_law}
-use Rattle.sl_stages.proofs.methods.DrawnLots.{fits_in}
-use Rattle.sl_stages.proofs.methods.HouseProofs.{growth_batches}
-use Rattle.sl_stages.proofs.methods.LadderProofs.{batches}
-use Rattle.sl_stages.proofs.methods.RaisedSeats.{increasing_distinct}
-use Rattle.sl_stages.proofs.methods.SeatSums.{length_zeros, sum_zeros}
-use Rattle.sl_stages.proofs.methods.WalkProofs.{walks}
+use Rattle.sl_base_quotients.specs.declared.method.Divisor.{Divisor}
+use Rattle.sl_law_meaning.specs.methods.Field.{InField, no_minima}
+use Rattle.sl_law_meaning.specs.methods.LeastHouse.{outside_sum, AllMeet, GrownTo, AboveCap, IsGrowth}
+use Rattle.sl_law_meaning.specs.methods.Ties.{Lists}
+use Rattle.sl_law_meaning.specs.laws.Ladders.{AreFalling, IsSettled, IsPeer}
+use Rattle.sl_law_meaning.specs.laws.Awards.{GrowthLaws, free_ladders}
+use Rattle.sl_law_meaning.specs.laws.Walks.{MidBatch}
+use Rattle.sl_law_meaning.proofs.methods.DivisorProofs.{has_of, divisor_ladders_law}
+use Rattle.sl_law_meaning.proofs.methods.DrawnLots.{fits_in}
+use Rattle.sl_law_meaning.proofs.methods.HouseProofs.{growth_batches}
+use Rattle.sl_law_meaning.proofs.methods.LadderProofs.{batches}
+use Rattle.sl_law_meaning.proofs.methods.RaisedSeats.{increasing_distinct}
+use Rattle.sl_law_meaning.proofs.methods.SeatSums.{length_zeros, sum_zeros}
+use Rattle.sl_law_meaning.proofs.methods.WalkProofs.{walks}
 use Rattle.sl_compile_pieces.proofs.nodes.Meeting.{missing, none_missing, some_missing}
 
 -- an entry of the field has less than its minimum

@@ -1,23 +1,23 @@
 -- The plan of a growth in one scope: an empty field, no house up to the cap, or the seats of the house that the search finds.
 use Rattle.std.proofs.Common.{◌≡◌, ℕ, ◌<◌, ◌≤◌, List, [], length, Some, refl, sym, ◌∙◌, arith}
 use Rattle.std.specs.Prelude.{sum, slice_get, slice_index}
-use Rattle.sl_ratio.specs.declared.limits.TheConstants.{MAX_SEATS}
-use Rattle.sl_ratio.specs.declared.method.Divisor.{Divisor}
-use Rattle.sl_ratio.specs.declared.method.Method.TheVariants as by
-use Rattle.sl_stages.specs.declared.book.Majority.{Majority}
-use Rattle.sl_stages.specs.declared.fault.FaultKind.TheVariants as fault
-use Rattle.sl_stages.specs.returns.Election.{Election, IsElection}
-use Rattle.sl_stages.specs.methods.Field.{InField}
-use Rattle.sl_stages.specs.methods.LeastHouse.{GrownTo, EmptyField, AboveCap, IsGrowth, outside_minima}
-use Rattle.sl_stages.specs.meaning.Scopes.{Group, cells}
-use Rattle.sl_stages.specs.meaning.Lots.{stage_lot}
-use Rattle.sl_stages.specs.meaning.Records.{Records}
-use Rattle.sl_stages.specs.meaning.Splits.{Award, Refused, IsChosen, IsGrowthAward}
-use Rattle.sl_stages.specs.meaning.Expressions.{IsGrowthIn, growth_records}
-use Rattle.sl_stages.specs.laws.Ladders.{IsTop}
-use Rattle.sl_stages.proofs.methods.DivisorProofs.{divisor_ladders_law, empty_fields}
-use Rattle.sl_stages.proofs.methods.HouseProofs.{growth_batches}
-use Rattle.sl_stages.proofs.methods.SeatSums.{some_less}
+use Rattle.sl_base_quotients.specs.declared.limits.TheConstants.{MAX_SEATS}
+use Rattle.sl_base_quotients.specs.declared.method.Divisor.{Divisor}
+use Rattle.sl_base_quotients.specs.declared.method.Method.TheVariants as by
+use Rattle.sl_law_meaning.specs.declared.book.Majority.{Majority}
+use Rattle.sl_law_meaning.specs.declared.fault.FaultKind.TheVariants as fault
+use Rattle.sl_law_meaning.specs.returns.Election.{Election, IsElection}
+use Rattle.sl_law_meaning.specs.methods.Field.{InField}
+use Rattle.sl_law_meaning.specs.methods.LeastHouse.{GrownTo, EmptyField, AboveCap, IsGrowth, outside_minima}
+use Rattle.sl_law_meaning.specs.meaning.Scopes.{Group, cells}
+use Rattle.sl_law_meaning.specs.meaning.Lots.{stage_lot}
+use Rattle.sl_law_meaning.specs.meaning.Records.{Records}
+use Rattle.sl_law_meaning.specs.meaning.Splits.{Award, Refused, IsChosen, IsGrowthAward}
+use Rattle.sl_law_meaning.specs.meaning.Expressions.{IsGrowthIn, growth_records}
+use Rattle.sl_law_meaning.specs.laws.Ladders.{IsTop}
+use Rattle.sl_law_meaning.proofs.methods.DivisorProofs.{divisor_ladders_law, empty_fields}
+use Rattle.sl_law_meaning.proofs.methods.HouseProofs.{growth_batches}
+use Rattle.sl_law_meaning.proofs.methods.SeatSums.{some_less}
 use Rattle.sl_code_instructions.specs.declared.operand.EndFault.TheVariants as end
 use Rattle.sl_code_instructions.specs.Codes.{CountingCode}
 use Rattle.sl_code_semantics.specs.State.{State, End, with_register}

@@ -1,12 +1,12 @@
 -- The house of a growth is found, or there is none up to the cap.
 use Rattle.std.proofs.Common.{◌≡◌, ℕ, ◌+◌, ◌<◌, ◌≤◌, min, max, List, [], ◌∷◌, sum, refl, sym, subst, ◌∙◌, inl, inr, arith}
-use Rattle.sl_ratio.specs.declared.limits.TheConstants.{MAX_SEATS}
-use Rattle.sl_ratio.specs.declared.method.Divisor.{Divisor}
-use Rattle.sl_stages.specs.returns.Election.{Election, IsElection}
-use Rattle.sl_stages.specs.methods.Field.{InField}
-use Rattle.sl_stages.specs.methods.LeastHouse.{outside_sum, AboveCap, IsGrowth}
-use Rattle.sl_stages.specs.meaning.Scopes.{Group}
-use Rattle.sl_stages.proofs.methods.SeatSums.{some_less}
+use Rattle.sl_base_quotients.specs.declared.limits.TheConstants.{MAX_SEATS}
+use Rattle.sl_base_quotients.specs.declared.method.Divisor.{Divisor}
+use Rattle.sl_law_meaning.specs.returns.Election.{Election, IsElection}
+use Rattle.sl_law_meaning.specs.methods.Field.{InField}
+use Rattle.sl_law_meaning.specs.methods.LeastHouse.{outside_sum, AboveCap, IsGrowth}
+use Rattle.sl_law_meaning.specs.meaning.Scopes.{Group}
+use Rattle.sl_law_meaning.proofs.methods.SeatSums.{some_less}
 use Rattle.sl_code_instructions.specs.declared.instr.Instr.TheVariants.{Add, Max}
 use Rattle.sl_code_instructions.specs.declared.operand.EndFault.TheVariants as end
 use Rattle.sl_code_instructions.specs.Codes.{CountingCode}

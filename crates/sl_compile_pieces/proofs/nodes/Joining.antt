@@ -4,20 +4,20 @@ use Rattle.std.specs.List.{AllByRecursion as Every, AllZip}
 use Rattle.std.specs.Prelude.{zip, flat_map}
 use Rattle.std.proofs.lemmas.List.{flat_map_more, length_push}
 use Rattle.std.proofs.lemmas.Option.{slice_get_within}
-use Rattle.sl_ratio.specs.declared.limits.TheConstants.{MAX_SEATS}
-use Rattle.sl_stages.specs.declared.fault.FaultKind.TheVariants as fault
-use Rattle.sl_stages.specs.returns.Election.{Election}
-use Rattle.sl_stages.specs.meaning.Scopes.{Group, pair_column}
-use Rattle.sl_stages.specs.meaning.Results.{fault_at, first_over, ExprResult, Fault, AreJoined, IsShared}
-use Rattle.sl_stages.proofs.meaning.JoinedScopes.{none_over, over_after, IsSeats, joined_fault, joined_seats}
+use Rattle.sl_base_quotients.specs.declared.limits.TheConstants.{MAX_SEATS}
+use Rattle.sl_law_meaning.specs.declared.fault.FaultKind.TheVariants as fault
+use Rattle.sl_law_meaning.specs.returns.Election.{Election}
+use Rattle.sl_law_meaning.specs.meaning.Scopes.{Group, pair_column}
+use Rattle.sl_law_meaning.specs.meaning.Results.{fault_at, first_over, ExprResult, Fault, AreJoined, IsShared}
+use Rattle.sl_law_meaning.proofs.meaning.JoinedScopes.{none_over, over_after, IsSeats, joined_fault, joined_seats}
 use Rattle.sl_base_terms.specs.declared.shape.Shape.{Shape}
-use Rattle.sl_stages.specs.declared.fault.LegalFault.{LegalFault}
-use Rattle.sl_stages.specs.declared.table.SeatStep.{SeatStep}
-use Rattle.sl_stages.specs.declared.table.Weight.{Weight}
-use Rattle.sl_stages.specs.meaning.Records.{Records, both_records}
-use Rattle.sl_stages.specs.meaning.Splits.{Award, Seats, Refused, awarded}
-use Rattle.sl_stages.proofs.meaning.DistinctLists.{every_append}
-use Rattle.sl_stages.proofs.meaning.AwardedEntries.{every_at}
+use Rattle.sl_law_meaning.specs.declared.fault.LegalFault.{LegalFault}
+use Rattle.sl_law_meaning.specs.declared.table.SeatStep.{SeatStep}
+use Rattle.sl_law_meaning.specs.declared.table.Weight.{Weight}
+use Rattle.sl_law_meaning.specs.meaning.Records.{Records, both_records}
+use Rattle.sl_law_meaning.specs.meaning.Splits.{Award, Seats, Refused, awarded}
+use Rattle.sl_law_meaning.proofs.meaning.DistinctLists.{every_append}
+use Rattle.sl_law_meaning.proofs.meaning.AwardedEntries.{every_at}
 use Rattle.sl_code_instructions.specs.declared.operand.EndFault.TheVariants as end
 use Rattle.sl_code_instructions.specs.Codes.{CountingCode}
 use Rattle.sl_code_semantics.specs.State.{State, End, Faulted, with_register, with_column}

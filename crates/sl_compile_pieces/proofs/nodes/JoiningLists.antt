@@ -3,7 +3,7 @@ use Rattle.std.proofs.Common.{◌≡◌, ◌⊎◌, ℕ, zero, suc, ◌+◌, ◌
 use Rattle.std.specs.Prelude.{zip}
 use Rattle.std.specs.List.{AllByRecursion as Every, AllZip}
 use Rattle.std.proofs.lemmas.Option.{none-some, same_Some}
-use Rattle.sl_stages.proofs.meaning.DistinctLists.{every_append}
+use Rattle.sl_law_meaning.proofs.meaning.DistinctLists.{every_append}
 
 module _ {X : Type 0} where
   -- ---- the first elements, and the one after them

@@ -2,14 +2,14 @@
 use Rattle.std.proofs.Common.{◌≡◌, ℕ, zero, suc, ◌+◌, ◌-◌, ◌<◌, ◌≤◌, Bool, List, [], ◌∷◌, length, take, sum, refl, sym, ap, subst, ◌∙◌, inl, inr, arith, eq-eqb, ne_eqb}
 use Rattle.std.specs.Prelude.{nat_eq, slice_index, if◌then◌else◌, Contains}
 use Rattle.std.proofs.lemmas.Bool.{cases_lt, cases_eq}
-use Rattle.sl_stages.specs.methods.Field.{InField}
-use Rattle.sl_stages.specs.methods.LeastHouse.{outside_minima, Meets}
-use Rattle.sl_stages.specs.laws.Ladders.{RaisesEach}
-use Rattle.sl_stages.proofs.methods.SeatSums.{some_less, sum_mono, entry_le_sum}
-use Rattle.sl_stages.proofs.methods.RaisedSeats.{Contains-none, Contains-head, sum-raise}
-use Rattle.sl_stages.proofs.methods.TieLaw.{raised_is}
-use Rattle.sl_stages.proofs.methods.HouseProofs.{outside_at, outside_in}
-use Rattle.sl_stages.proofs.methods.DivisorProofs.{in_range}
+use Rattle.sl_law_meaning.specs.methods.Field.{InField}
+use Rattle.sl_law_meaning.specs.methods.LeastHouse.{outside_minima, Meets}
+use Rattle.sl_law_meaning.specs.laws.Ladders.{RaisesEach}
+use Rattle.sl_law_meaning.proofs.methods.SeatSums.{some_less, sum_mono, entry_le_sum}
+use Rattle.sl_law_meaning.proofs.methods.RaisedSeats.{Contains-none, Contains-head, sum-raise}
+use Rattle.sl_law_meaning.proofs.methods.TieLaw.{raised_is}
+use Rattle.sl_law_meaning.proofs.methods.HouseProofs.{outside_at, outside_in}
+use Rattle.sl_law_meaning.proofs.methods.DivisorProofs.{in_range}
 use Rattle.sl_compile_pieces.proofs.arenas.Pieces.{only_it, not_it}
 use Rattle.sl_compile_pieces.proofs.seats.Lists.{sum_of_all}
 

@@ -1,11 +1,11 @@
 -- Splits and growths, from what their plans achieve in each scope.
 use Rattle.std.proofs.Common.{Some, subst}
 use Rattle.sl_base_terms.specs.declared.shape.Shape.{Shape}
-use Rattle.sl_stages.specs.meaning.Scopes.{scopes}
-use Rattle.sl_stages.specs.meaning.Results.{ExprResult, Stand, IsShared}
-use Rattle.sl_stages.specs.meaning.Expressions.{IsSplitIn, split_records, IsGrowthIn, growth_records}
-use Rattle.sl_stages.specs.laws.OneLaws.{ExactlyOne}
-use Rattle.sl_stages.proofs.meaning.OneResult.{one_split_award, one_growth_award}
+use Rattle.sl_law_meaning.specs.meaning.Scopes.{scopes}
+use Rattle.sl_law_meaning.specs.meaning.Results.{ExprResult, Stand, IsShared}
+use Rattle.sl_law_meaning.specs.meaning.Expressions.{IsSplitIn, split_records, IsGrowthIn, growth_records}
+use Rattle.sl_law_meaning.specs.laws.OneLaws.{ExactlyOne}
+use Rattle.sl_law_meaning.proofs.meaning.OneResult.{one_split_award, one_growth_award}
 use Rattle.sl_compile_plans.specs.Achieves.{Achieves}
 use Rattle.sl_compile_pieces.specs.scopes.Forms.{votes_of}
 use Rattle.sl_compile_pieces.specs.nodes.Trees.{split_scope, grow_scope, grow_tree}

@@ -4,24 +4,24 @@ use Rattle.std.specs.Prelude.{sum, slice_get, slice_index, ◌-◌, IsPermutatio
 use Rattle.std.proofs.lemmas.Bool.{cond-true, cond-false}
 use Rattle.std.proofs.lemmas.List.Elements.{All-from_get_or}
 use Rattle.std.proofs.lemmas.Option.{slice_get-get_or, slice_get_within, get_or_from_slice_get}
-use Rattle.sl_ratio.specs.declared.limits.TheConstants.{MAX_WEIGHT, MAX_SEATS}
-use Rattle.sl_ratio.specs.declared.method.Method.{Method}
-use Rattle.sl_stages.specs.returns.Election.{Election, IsElection}
-use Rattle.sl_stages.specs.meaning.Scopes.{Group, cells, place}
-use Rattle.sl_stages.specs.meaning.Expressions.{minima_at}
-use Rattle.sl_stages.specs.meaning.Records.{Records}
-use Rattle.sl_stages.specs.meaning.Splits.{Award, Seats, Refused, IsChosen, is_refused, entries_at}
-use Rattle.sl_stages.specs.declared.book.Majority.{Majority}
-use Rattle.sl_stages.specs.declared.fault.Item.{Item}
-use Rattle.sl_stages.specs.declared.fault.Item.TheVariants as item
-use Rattle.sl_stages.specs.declared.fault.FaultKind.TheVariants as fault
-use Rattle.sl_stages.specs.declared.table.Weight.{Weight}
-use Rattle.sl_stages.specs.methods.Field.{InField, IsEmptyField}
-use Rattle.sl_stages.specs.methods.Ties.{Decided, Tied, IsChoice}
-use Rattle.sl_stages.specs.meaning.Lots.{stage_lot}
-use Rattle.sl_stages.specs.laws.Ladders.{Ladders, IsTop, HasRoom}
-use Rattle.sl_stages.proofs.methods.DivisorProofs.{cases_field}
-use Rattle.sl_stages.proofs.methods.SeatSums.{sum_mono}
+use Rattle.sl_base_quotients.specs.declared.limits.TheConstants.{MAX_WEIGHT, MAX_SEATS}
+use Rattle.sl_base_quotients.specs.declared.method.Method.{Method}
+use Rattle.sl_law_meaning.specs.returns.Election.{Election, IsElection}
+use Rattle.sl_law_meaning.specs.meaning.Scopes.{Group, cells, place}
+use Rattle.sl_law_meaning.specs.meaning.Expressions.{minima_at}
+use Rattle.sl_law_meaning.specs.meaning.Records.{Records}
+use Rattle.sl_law_meaning.specs.meaning.Splits.{Award, Seats, Refused, IsChosen, is_refused, entries_at}
+use Rattle.sl_law_meaning.specs.declared.book.Majority.{Majority}
+use Rattle.sl_law_meaning.specs.declared.fault.Item.{Item}
+use Rattle.sl_law_meaning.specs.declared.fault.Item.TheVariants as item
+use Rattle.sl_law_meaning.specs.declared.fault.FaultKind.TheVariants as fault
+use Rattle.sl_law_meaning.specs.declared.table.Weight.{Weight}
+use Rattle.sl_law_meaning.specs.methods.Field.{InField, IsEmptyField}
+use Rattle.sl_law_meaning.specs.methods.Ties.{Decided, Tied, IsChoice}
+use Rattle.sl_law_meaning.specs.meaning.Lots.{stage_lot}
+use Rattle.sl_law_meaning.specs.laws.Ladders.{Ladders, IsTop, HasRoom}
+use Rattle.sl_law_meaning.proofs.methods.DivisorProofs.{cases_field}
+use Rattle.sl_law_meaning.proofs.methods.SeatSums.{sum_mono}
 use Rattle.sl_code_instructions.specs.declared.instr.Instr.TheVariants as op
 use Rattle.sl_code_instructions.specs.Codes.{CountingCode}
 use Rattle.sl_code_instructions.specs.declared.operand.Entries.{Entries}

@@ -6,20 +6,20 @@ use Rattle.std.proofs.lemmas.Option.{same_Some, slice_get_within}
 use Rattle.std.specs.List.{range_with_len}
 use Rattle.std.proofs.lemmas.List.{length-map}
 use Rattle.std.proofs.lemmas.List.FromFn.{length-range_with_len}
-use Rattle.sl_ratio.specs.declared.entry.Entry.{Entry}
-use Rattle.sl_ratio.specs.declared.limits.TheConstants.{MAX_SEATS}
-use Rattle.sl_ratio.specs.declared.method.Divisor.{Divisor}
-use Rattle.sl_stages.specs.declared.fault.Item.{Item}
-use Rattle.sl_stages.specs.returns.Election.{Election}
-use Rattle.sl_stages.specs.methods.Field.{InField, no_minima}
-use Rattle.sl_stages.specs.methods.LeastHouse.{outside_minima}
-use Rattle.sl_stages.specs.meaning.Scopes.{Group, place}
-use Rattle.sl_stages.proofs.methods.HouseProofs.{length-outside, outside_at, outside_in}
-use Rattle.sl_stages.proofs.methods.SeatSums.{sum_mono, none_needed, length_zeros, sum_zeros}
-use Rattle.sl_stages.specs.methods.Ties.{Lists}
-use Rattle.sl_stages.specs.laws.Awards.{LadderLaws, free_ladders}
-use Rattle.sl_stages.specs.laws.Ladders.{IsPeer}
-use Rattle.sl_stages.proofs.methods.LadderProofs as ladders
+use Rattle.sl_base_quotients.specs.declared.entry.Entry.{Entry}
+use Rattle.sl_base_quotients.specs.declared.limits.TheConstants.{MAX_SEATS}
+use Rattle.sl_base_quotients.specs.declared.method.Divisor.{Divisor}
+use Rattle.sl_law_meaning.specs.declared.fault.Item.{Item}
+use Rattle.sl_law_meaning.specs.returns.Election.{Election}
+use Rattle.sl_law_meaning.specs.methods.Field.{InField, no_minima}
+use Rattle.sl_law_meaning.specs.methods.LeastHouse.{outside_minima}
+use Rattle.sl_law_meaning.specs.meaning.Scopes.{Group, place}
+use Rattle.sl_law_meaning.proofs.methods.HouseProofs.{length-outside, outside_at, outside_in}
+use Rattle.sl_law_meaning.proofs.methods.SeatSums.{sum_mono, none_needed, length_zeros, sum_zeros}
+use Rattle.sl_law_meaning.specs.methods.Ties.{Lists}
+use Rattle.sl_law_meaning.specs.laws.Awards.{LadderLaws, free_ladders}
+use Rattle.sl_law_meaning.specs.laws.Ladders.{IsPeer}
+use Rattle.sl_law_meaning.proofs.methods.LadderProofs as ladders
 use Rattle.sl_code_instructions.specs.declared.instr.Instr.TheVariants.{Set, Add, Store, Prio}
 use Rattle.sl_code_instructions.specs.Codes.{CountingCode}
 use Rattle.sl_code_semantics.specs.State.{State, PriorityTable, with_register, with_cell}

@@ -3,22 +3,22 @@ use Rattle.std.proofs.Common.{◌≡◌, ◌≢◌, ℕ, ◌+◌, ◌≤◌, min
 use Rattle.std.specs.Prelude.{slice_index}
 use Rattle.std.proofs.lemmas.Bool.{cases_eq}
 use Rattle.std.proofs.lemmas.Option.{same_Some}
-use Rattle.sl_ratio.specs.declared.limits.TheConstants.{MAX_SEATS}
-use Rattle.sl_ratio.specs.declared.method.Divisor.{Divisor}
-use Rattle.sl_stages.specs.declared.fault.Item.{Item}
-use Rattle.sl_stages.specs.declared.table.Mark.{Mark}
-use Rattle.sl_stages.specs.declared.table.Placed.{Placed}
-use Rattle.sl_stages.specs.returns.Election.{Election}
-use Rattle.sl_stages.specs.methods.Field.{InField, no_minima}
-use Rattle.sl_stages.specs.methods.LeastHouse.{outside_sum}
-use Rattle.sl_stages.specs.meaning.Scopes.{Group, place}
-use Rattle.sl_stages.specs.laws.Awards.{free_ladders}
-use Rattle.sl_stages.specs.laws.Ladders.{Has, AreFalling, IsSettled, RaisesEach}
-use Rattle.sl_stages.specs.laws.Walks.{MidBatch}
-use Rattle.sl_stages.proofs.methods.DivisorProofs.{field_of, has_of, in_range}
-use Rattle.sl_stages.proofs.methods.RaisedSeats.{Contains-head}
-use Rattle.sl_stages.proofs.methods.SeatSums.{none_needed, length_zeros}
-use Rattle.sl_stages.proofs.methods.WalkProofs.{walks}
+use Rattle.sl_base_quotients.specs.declared.limits.TheConstants.{MAX_SEATS}
+use Rattle.sl_base_quotients.specs.declared.method.Divisor.{Divisor}
+use Rattle.sl_law_meaning.specs.declared.fault.Item.{Item}
+use Rattle.sl_law_meaning.specs.declared.table.Mark.{Mark}
+use Rattle.sl_law_meaning.specs.declared.table.Placed.{Placed}
+use Rattle.sl_law_meaning.specs.returns.Election.{Election}
+use Rattle.sl_law_meaning.specs.methods.Field.{InField, no_minima}
+use Rattle.sl_law_meaning.specs.methods.LeastHouse.{outside_sum}
+use Rattle.sl_law_meaning.specs.meaning.Scopes.{Group, place}
+use Rattle.sl_law_meaning.specs.laws.Awards.{free_ladders}
+use Rattle.sl_law_meaning.specs.laws.Ladders.{Has, AreFalling, IsSettled, RaisesEach}
+use Rattle.sl_law_meaning.specs.laws.Walks.{MidBatch}
+use Rattle.sl_law_meaning.proofs.methods.DivisorProofs.{field_of, has_of, in_range}
+use Rattle.sl_law_meaning.proofs.methods.RaisedSeats.{Contains-head}
+use Rattle.sl_law_meaning.proofs.methods.SeatSums.{none_needed, length_zeros}
+use Rattle.sl_law_meaning.proofs.methods.WalkProofs.{walks}
 use Rattle.sl_code_instructions.specs.declared.instr.Instr.TheVariants.{Add, Store, Sub}
 use Rattle.sl_code_instructions.specs.Codes.{CountingCode}
 use Rattle.sl_code_semantics.specs.State.{State, PriorityTable, with_register, with_cell}

@@ -1,24 +1,24 @@
 -- The plan of a split in one scope: what refuses the seats, or the seats that its method gives.
 use Rattle.std.proofs.Common.{◌≡◌, ℕ, ◌≤◌, ◌&&◌, List, [], length, Option, Some, None, refl, sym, ap, subst, arith}
 use Rattle.std.specs.Prelude.{MatchOption, slice_get, slice_index, is_none, if◌then◌else◌}
-use Rattle.sl_ratio.specs.declared.limits.TheConstants.{MAX_SEATS}
-use Rattle.sl_ratio.specs.declared.method.Method.{Method}
-use Rattle.sl_ratio.specs.declared.method.Method.TheVariants as by
-use Rattle.sl_stages.specs.declared.book.Majority.{Majority}
-use Rattle.sl_stages.specs.declared.fault.FaultKind.{FaultKind}
-use Rattle.sl_stages.specs.returns.Election.{Election, IsElection}
-use Rattle.sl_stages.specs.book.Typing.{is_prefer}
-use Rattle.sl_stages.specs.methods.Ties.{Choice, IsChoice}
-use Rattle.sl_stages.specs.meaning.Scopes.{Group, cells}
-use Rattle.sl_stages.specs.meaning.Lots.{stage_lot}
-use Rattle.sl_stages.specs.meaning.Records.{Records, field_weights, tells_weights}
-use Rattle.sl_stages.specs.meaning.Splits.{Award, Refused, refusal, IsAllocation, IsChosen, IsSplitAward}
-use Rattle.sl_stages.specs.meaning.Expressions.{IsSplitIn, split_records, minima_at}
-use Rattle.sl_stages.specs.laws.Ladders.{IsTop}
-use Rattle.sl_stages.specs.laws.OneLaws.{FitsMethod}
-use Rattle.sl_stages.proofs.methods.DivisorProofs.{divisor_ladders_law}
-use Rattle.sl_stages.proofs.methods.HamiltonProofs.{hamilton_ladders_law}
-use Rattle.sl_stages.proofs.meaning.OneAward.{TakesMinima, HasNone, none_refused}
+use Rattle.sl_base_quotients.specs.declared.limits.TheConstants.{MAX_SEATS}
+use Rattle.sl_base_quotients.specs.declared.method.Method.{Method}
+use Rattle.sl_base_quotients.specs.declared.method.Method.TheVariants as by
+use Rattle.sl_law_meaning.specs.declared.book.Majority.{Majority}
+use Rattle.sl_law_meaning.specs.declared.fault.FaultKind.{FaultKind}
+use Rattle.sl_law_meaning.specs.returns.Election.{Election, IsElection}
+use Rattle.sl_law_meaning.specs.book.Typing.{is_prefer}
+use Rattle.sl_law_meaning.specs.methods.Ties.{Choice, IsChoice}
+use Rattle.sl_law_meaning.specs.meaning.Scopes.{Group, cells}
+use Rattle.sl_law_meaning.specs.meaning.Lots.{stage_lot}
+use Rattle.sl_law_meaning.specs.meaning.Records.{Records, field_weights, tells_weights}
+use Rattle.sl_law_meaning.specs.meaning.Splits.{Award, Refused, refusal, IsAllocation, IsChosen, IsSplitAward}
+use Rattle.sl_law_meaning.specs.meaning.Expressions.{IsSplitIn, split_records, minima_at}
+use Rattle.sl_law_meaning.specs.laws.Ladders.{IsTop}
+use Rattle.sl_law_meaning.specs.laws.OneLaws.{FitsMethod}
+use Rattle.sl_law_meaning.proofs.methods.DivisorProofs.{divisor_ladders_law}
+use Rattle.sl_law_meaning.proofs.methods.HamiltonProofs.{hamilton_ladders_law}
+use Rattle.sl_law_meaning.proofs.meaning.OneAward.{TakesMinima, HasNone, none_refused}
 use Rattle.sl_code_instructions.specs.Codes.{CountingCode}
 use Rattle.sl_code_semantics.specs.State.{State, End}
 use Rattle.sl_compile_plans.specs.Trees.{Tree, Then}

@@ -4,7 +4,7 @@ use Rattle.std.specs.Prelude.{slice_index}
 use Rattle.std.specs.List.{AllByRecursion as Every, range_with_len}
 use Rattle.std.specs.List.Sorted.{IsStrictlyIncreasing}
 use Rattle.std.proofs.lemmas.Bool.{cases_Bool}
-use Rattle.sl_stages.proofs.meaning.DistinctLists.{every_map, every_filter, every_append, every_weaker}
+use Rattle.sl_law_meaning.proofs.meaning.DistinctLists.{every_map, every_filter, every_append, every_weaker}
 
 -- it is less than that of each later element
 abbrev pub Rises : {X : Type 0} → (X → ℕ) → List X → Type 0

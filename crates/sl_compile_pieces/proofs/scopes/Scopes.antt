@@ -7,22 +7,22 @@ use Rattle.std.proofs.lemmas.Nat.{div-mul-add}
 use Rattle.std.proofs.Math.Nat.{add-mul-mod_self_right, mod-eq_of_lt, mul-le-mul_right}
 use Rattle.std.proofs.lemmas.Option.{slice_get_within}
 use Rattle.sl_base_terms.specs.declared.shape.Shape.TheVariants as shape
-use Rattle.sl_stages.specs.declared.fault.Scope.{Scope}
-use Rattle.sl_stages.specs.declared.fault.Scope.TheVariants as scope
-use Rattle.sl_stages.specs.declared.fault.Item.{Item}
-use Rattle.sl_stages.specs.declared.fault.Item.TheVariants as item
-use Rattle.sl_stages.specs.returns.Election.{Election, lands_of, parties_of, has_list}
-use Rattle.sl_stages.specs.returns.Facts.{lands, parties}
-use Rattle.sl_stages.specs.meaning.Scopes.{place, entries_of, lists_in_land, lists_of_party, Group}
+use Rattle.sl_law_meaning.specs.declared.fault.Scope.{Scope}
+use Rattle.sl_law_meaning.specs.declared.fault.Scope.TheVariants as scope
+use Rattle.sl_law_meaning.specs.declared.fault.Item.{Item}
+use Rattle.sl_law_meaning.specs.declared.fault.Item.TheVariants as item
+use Rattle.sl_law_meaning.specs.returns.Election.{Election, lands_of, parties_of, has_list}
+use Rattle.sl_law_meaning.specs.returns.Facts.{lands, parties}
+use Rattle.sl_law_meaning.specs.meaning.Scopes.{place, entries_of, lists_in_land, lists_of_party, Group}
 use Rattle.sl_code_instructions.specs.declared.operand.Entries.TheVariants as entries
 use Rattle.sl_code_semantics.specs.State.{State}
 use Rattle.sl_code_semantics.specs.Places.{both}
-use Rattle.sl_stages.proofs.meaning.DistinctLists.{every_map, every_filter, every_pieces, every_weaker}
+use Rattle.sl_law_meaning.proofs.meaning.DistinctLists.{every_map, every_filter, every_pieces, every_weaker}
 use Rattle.sl_compile_pieces.specs.scopes.Forms.{AllParties, AllLands, AllLists, ListsOfParty, ListsInLand, groups_of, OnScope, OnItem}
 use Rattle.sl_compile_pieces.specs.scopes.Scopes.{IsEntry, IsScope, ScopesHold, ScopesApart}
 use Rattle.sl_compile_pieces.proofs.scopes.Rising.{Rises, between, rises_range, rises_filter, rises_map, rises_append, increasing}
 use Rattle.sl_compile_pieces.proofs.scopes.Forms.{only_one, made_of, all_group, party_group, land_group}
-use Rattle.sl_stages.proofs.meaning.AwardedEntries.{every_at}
+use Rattle.sl_law_meaning.proofs.meaning.AwardedEntries.{every_at}
 use Rattle.sl_compile_pieces.proofs.arenas.Pieces.{number_is}
 
 -- ---- the place of a pair

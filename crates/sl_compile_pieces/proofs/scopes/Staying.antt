@@ -1,11 +1,11 @@
 -- Where the cursors of two states stand alike, they stand at the same scope and at the same entry; so bodies that move no cursor stay at the entry that they visit.
 use Rattle.std.proofs.Common.{◌≡◌, ℕ, ◌+◌, false, List, Some, ◌∙◌}
 use Rattle.std.specs.Prelude.{slice_get}
-use Rattle.sl_stages.specs.declared.fault.Scope.{Scope}
-use Rattle.sl_stages.specs.declared.fault.Scope.TheVariants as scope
-use Rattle.sl_stages.specs.declared.fault.Item.{Item}
-use Rattle.sl_stages.specs.declared.fault.Item.TheVariants as item
-use Rattle.sl_stages.specs.returns.Election.{Election}
+use Rattle.sl_law_meaning.specs.declared.fault.Scope.{Scope}
+use Rattle.sl_law_meaning.specs.declared.fault.Scope.TheVariants as scope
+use Rattle.sl_law_meaning.specs.declared.fault.Item.{Item}
+use Rattle.sl_law_meaning.specs.declared.fault.Item.TheVariants as item
+use Rattle.sl_law_meaning.specs.returns.Election.{Election}
 use Rattle.sl_code_instructions.specs.Codes.{CountingCode}
 use Rattle.sl_code_semantics.specs.State.{State, End}
 use Rattle.sl_compile_plans.specs.declared.plan.Cursor.TheVariants as cursor

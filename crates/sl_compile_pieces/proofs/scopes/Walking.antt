@@ -4,9 +4,9 @@ use Rattle.std.specs.Prelude.{flat_map, slice_get}
 use Rattle.std.specs.List.{range_with_len}
 use Rattle.std.proofs.lemmas.Bool.{cond-true, cond-false}
 use Rattle.std.proofs.lemmas.List.Concat.{flat_map_single}
-use Rattle.sl_stages.specs.declared.fault.Item.{Item}
-use Rattle.sl_stages.specs.declared.fault.Item.TheVariants as item
-use Rattle.sl_stages.specs.returns.Election.{Election, has_list}
+use Rattle.sl_law_meaning.specs.declared.fault.Item.{Item}
+use Rattle.sl_law_meaning.specs.declared.fault.Item.TheVariants as item
+use Rattle.sl_law_meaning.specs.returns.Election.{Election, has_list}
 use Rattle.sl_code_instructions.specs.Codes.{CountingCode}
 use Rattle.sl_code_semantics.specs.State.{State, End}
 use Rattle.sl_compile_plans.specs.declared.plan.Cursor.{Cursor}

@@ -2,16 +2,16 @@
 use Rattle.std.proofs.Common.{◌≡◌, ℕ, ◌*◌, ◌/◌, ◌%◌, ◌≤◌, Bool, false, List, length, All, Option, Some, None, min, sum, slice_get, refl, sym, ap, ◌∙◌, arith, ◌∷◌, []}
 use Rattle.std.specs.Prelude.{slice_index}
 use Rattle.std.proofs.Math.Nat.{mul-le-mul_right}
-use Rattle.sl_ratio.specs.declared.limits.TheConstants.{MAX_WEIGHT, MAX_SEATS}
-use Rattle.sl_stages.specs.declared.fault.Item.{Item}
-use Rattle.sl_stages.specs.returns.Election.{Election}
-use Rattle.sl_stages.specs.methods.Field.{InField}
-use Rattle.sl_stages.specs.methods.Hamilton.{whole, whole_parts, remainder}
-use Rattle.sl_stages.specs.methods.LeastHouse.{outside_minima}
-use Rattle.sl_stages.specs.meaning.Scopes.{Group, place}
-use Rattle.sl_stages.proofs.methods.HamiltonProofs.{zero_div, at_wholes}
-use Rattle.sl_stages.proofs.methods.HouseProofs.{outside_at, outside_in}
-use Rattle.sl_stages.proofs.methods.SeatSums.{none_needed, entry_le_sum}
+use Rattle.sl_base_quotients.specs.declared.limits.TheConstants.{MAX_WEIGHT, MAX_SEATS}
+use Rattle.sl_law_meaning.specs.declared.fault.Item.{Item}
+use Rattle.sl_law_meaning.specs.returns.Election.{Election}
+use Rattle.sl_law_meaning.specs.methods.Field.{InField}
+use Rattle.sl_law_meaning.specs.methods.Hamilton.{whole, whole_parts, remainder}
+use Rattle.sl_law_meaning.specs.methods.LeastHouse.{outside_minima}
+use Rattle.sl_law_meaning.specs.meaning.Scopes.{Group, place}
+use Rattle.sl_law_meaning.proofs.methods.HamiltonProofs.{zero_div, at_wholes}
+use Rattle.sl_law_meaning.proofs.methods.HouseProofs.{outside_at, outside_in}
+use Rattle.sl_law_meaning.proofs.methods.SeatSums.{none_needed, entry_le_sum}
 use Rattle.sl_code_instructions.specs.Codes.{CountingCode}
 use Rattle.sl_code_semantics.specs.State.{State, with_register}
 use Rattle.sl_code_semantics.specs.Effects.{most}

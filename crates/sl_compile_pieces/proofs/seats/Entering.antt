@@ -3,18 +3,18 @@ use Rattle.std.proofs.Common.{◌≡◌, ℕ, suc, ◌+◌, ◌*◌, ◌-◌, �
 use Rattle.std.specs.Prelude.{is_none, is_some, option_map, unwrap_or, nat_lt, nat_le, slice_index, if◌then◌else◌}
 use Rattle.std.proofs.lemmas.Bool.{lt-ltb, le-ltb, le-leb, lt-leb, and_left, and_right, and_from}
 use Rattle.std.proofs.lemmas.List.{append-nil}
-use Rattle.sl_ratio.specs.declared.entry.Entry.{Entry}
-use Rattle.sl_ratio.specs.declared.limits.TheConstants.{MAX_WEIGHT, MAX_SEATS}
-use Rattle.sl_ratio.specs.declared.method.Divisor.{Divisor}
-use Rattle.sl_ratio.specs.declared.method.Divisor.TheVariants as divisor
-use Rattle.sl_ratio.specs.Quotient.{Quotient}
-use Rattle.sl_stages.specs.declared.fault.Item.{Item}
-use Rattle.sl_stages.specs.declared.table.Weight.{Weight}
-use Rattle.sl_stages.specs.returns.Election.{Election}
-use Rattle.sl_stages.specs.methods.Hamilton.{whole, whole_parts, remainder, remainder_rank, is_leading}
-use Rattle.sl_stages.specs.meaning.Records.{tells_weights}
-use Rattle.sl_stages.specs.meaning.Scopes.{Group, place}
-use Rattle.sl_stages.proofs.methods.HamiltonProofs.{at_wholes}
+use Rattle.sl_base_quotients.specs.declared.entry.Entry.{Entry}
+use Rattle.sl_base_quotients.specs.declared.limits.TheConstants.{MAX_WEIGHT, MAX_SEATS}
+use Rattle.sl_base_quotients.specs.declared.method.Divisor.{Divisor}
+use Rattle.sl_base_quotients.specs.declared.method.Divisor.TheVariants as divisor
+use Rattle.sl_base_quotients.specs.Quotient.{Quotient}
+use Rattle.sl_law_meaning.specs.declared.fault.Item.{Item}
+use Rattle.sl_law_meaning.specs.declared.table.Weight.{Weight}
+use Rattle.sl_law_meaning.specs.returns.Election.{Election}
+use Rattle.sl_law_meaning.specs.methods.Hamilton.{whole, whole_parts, remainder, remainder_rank, is_leading}
+use Rattle.sl_law_meaning.specs.meaning.Records.{tells_weights}
+use Rattle.sl_law_meaning.specs.meaning.Scopes.{Group, place}
+use Rattle.sl_law_meaning.proofs.methods.HamiltonProofs.{at_wholes}
 use Rattle.sl_code_instructions.specs.declared.instr.Instr.TheVariants.{Prio, Lead, Weigh}
 use Rattle.sl_code_instructions.specs.declared.operand.Rounding.{Rounding}
 use Rattle.sl_code_instructions.specs.declared.operand.Rounding.TheVariants as rounding

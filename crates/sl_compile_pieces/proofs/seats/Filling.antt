@@ -8,24 +8,24 @@ use Rattle.std.proofs.lemmas.List.Sorted.{IsPermutation-refl}
 use Rattle.std.proofs.lemmas.Option.{slice_get_within}
 use Rattle.std.proofs.Math.Bool.{and-true}
 use Rattle.std.proofs.lemmas.Bool.{le-leb}
-use Rattle.sl_ratio.specs.declared.method.Divisor.{Divisor}
-use Rattle.sl_ratio.specs.declared.method.Method.TheVariants as by
-use Rattle.sl_ratio.specs.declared.method.Method.{Method}
-use Rattle.sl_stages.specs.declared.fault.Item.{Item}
-use Rattle.sl_stages.specs.declared.table.Mark.{Mark}
-use Rattle.sl_stages.specs.declared.table.SeatStep.{SeatStep}
-use Rattle.sl_stages.specs.declared.table.Weight.{Weight}
-use Rattle.sl_stages.specs.returns.Election.{Election, IsElection}
-use Rattle.sl_stages.specs.meaning.Scopes.{Group, place}
-use Rattle.sl_stages.specs.meaning.Records.{seat_step, field_weights, tells_weights}
-use Rattle.sl_stages.specs.methods.Steps.{step_of}
-use Rattle.sl_stages.specs.laws.Ladders.{Ladders}
-use Rattle.sl_stages.specs.book.Typing.{is_prefer}
-use Rattle.sl_stages.specs.methods.Hamilton.{whole, whole_parts}
-use Rattle.sl_stages.specs.methods.LeastHouse.{outside_minima}
-use Rattle.sl_stages.proofs.methods.HamiltonProofs.{at_wholes}
-use Rattle.sl_stages.proofs.methods.HouseProofs.{length-outside}
-use Rattle.sl_stages.specs.declared.book.Majority.{Majority}
+use Rattle.sl_base_quotients.specs.declared.method.Divisor.{Divisor}
+use Rattle.sl_base_quotients.specs.declared.method.Method.TheVariants as by
+use Rattle.sl_base_quotients.specs.declared.method.Method.{Method}
+use Rattle.sl_law_meaning.specs.declared.fault.Item.{Item}
+use Rattle.sl_law_meaning.specs.declared.table.Mark.{Mark}
+use Rattle.sl_law_meaning.specs.declared.table.SeatStep.{SeatStep}
+use Rattle.sl_law_meaning.specs.declared.table.Weight.{Weight}
+use Rattle.sl_law_meaning.specs.returns.Election.{Election, IsElection}
+use Rattle.sl_law_meaning.specs.meaning.Scopes.{Group, place}
+use Rattle.sl_law_meaning.specs.meaning.Records.{seat_step, field_weights, tells_weights}
+use Rattle.sl_law_meaning.specs.methods.Steps.{step_of}
+use Rattle.sl_law_meaning.specs.laws.Ladders.{Ladders}
+use Rattle.sl_law_meaning.specs.book.Typing.{is_prefer}
+use Rattle.sl_law_meaning.specs.methods.Hamilton.{whole, whole_parts}
+use Rattle.sl_law_meaning.specs.methods.LeastHouse.{outside_minima}
+use Rattle.sl_law_meaning.proofs.methods.HamiltonProofs.{at_wholes}
+use Rattle.sl_law_meaning.proofs.methods.HouseProofs.{length-outside}
+use Rattle.sl_law_meaning.specs.declared.book.Majority.{Majority}
 use Rattle.sl_code_instructions.specs.declared.instr.Instr.TheVariants.{Mov, Table}
 use Rattle.sl_code_instructions.specs.declared.operand.Ranking.{Ranking}
 use Rattle.sl_code_instructions.specs.Codes.{CountingCode}

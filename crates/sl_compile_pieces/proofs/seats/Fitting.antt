@@ -4,9 +4,9 @@ use Rattle.std.specs.Prelude.{sum, slice_index, All, Some, slice_get}
 use Rattle.std.specs.List.Sorted.{IsStrictlyIncreasing}
 use Rattle.std.proofs.lemmas.List.{length-map}
 use Rattle.std.proofs.lemmas.List.Sums.{sum_by-le}
-use Rattle.sl_ratio.specs.declared.limits.TheConstants.{MAX_WEIGHT, MAX_LANDS, MAX_PARTIES}
-use Rattle.sl_stages.specs.returns.Election.{Election, IsElection, lands_of, parties_of}
-use Rattle.sl_stages.specs.meaning.Scopes.{Group, place}
+use Rattle.sl_base_quotients.specs.declared.limits.TheConstants.{MAX_WEIGHT, MAX_LANDS, MAX_PARTIES}
+use Rattle.sl_law_meaning.specs.returns.Election.{Election, IsElection, lands_of, parties_of}
+use Rattle.sl_law_meaning.specs.meaning.Scopes.{Group, place}
 use Rattle.sl_code_semantics.specs.Places.{cells_of}
 use Rattle.sl_code_semantics.specs.Effects.{most}
 use Rattle.sl_compile_pieces.specs.scopes.Forms.{Form, AllParties, AllLands, votes_of, groups_of}

@@ -2,11 +2,11 @@
 use Rattle.std.proofs.Common.{◌≡◌, ℕ, suc, ◌+◌, ◌-◌, ◌≤◌, min, List, [], ◌∷◌, ◌++◌, map, Some, refl, sym, ap, subst, ◌∙◌, append-nil, arith}
 use Rattle.std.specs.List.{range_with_len}
 use Rattle.std.proofs.lemmas.List.FromFn.{map-range_with_len_more}
-use Rattle.sl_stages.specs.declared.fault.Scope.{Scope}
-use Rattle.sl_stages.specs.declared.fault.Item.{Item}
-use Rattle.sl_stages.specs.declared.table.Mark.TheVariants as mark
-use Rattle.sl_stages.specs.declared.table.SeatStep.{SeatStep}
-use Rattle.sl_stages.specs.returns.Election.{Election}
+use Rattle.sl_law_meaning.specs.declared.fault.Scope.{Scope}
+use Rattle.sl_law_meaning.specs.declared.fault.Item.{Item}
+use Rattle.sl_law_meaning.specs.declared.table.Mark.TheVariants as mark
+use Rattle.sl_law_meaning.specs.declared.table.SeatStep.{SeatStep}
+use Rattle.sl_law_meaning.specs.returns.Election.{Election}
 use Rattle.sl_code_instructions.specs.declared.instr.Instr.TheVariants.{Given}
 use Rattle.sl_code_instructions.specs.declared.operand.ScopeKind.{ScopeKind}
 use Rattle.sl_code_instructions.specs.Codes.{CountingCode}

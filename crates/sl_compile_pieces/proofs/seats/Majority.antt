@@ -7,12 +7,12 @@ use Rattle.std.proofs.lemmas.List.{take_all}
 use Rattle.std.proofs.lemmas.List.Folds.{list_any_more, list_any_at}
 use Rattle.std.proofs.lemmas.Option.{slice_get_within}
 use Rattle.std.proofs.lemmas.Slice.Zip.{length-zip, get_or-zip}
-use Rattle.sl_ratio.specs.declared.limits.TheConstants.{MAX_WEIGHT, MAX_SEATS}
-use Rattle.sl_stages.specs.declared.book.Majority.{Majority}
-use Rattle.sl_stages.specs.declared.fault.Item.{Item}
-use Rattle.sl_stages.specs.returns.Election.{Election}
-use Rattle.sl_stages.specs.meaning.Scopes.{Group, place}
-use Rattle.sl_stages.specs.meaning.Splits.{is_deprived, is_refuse, is_refused}
+use Rattle.sl_base_quotients.specs.declared.limits.TheConstants.{MAX_WEIGHT, MAX_SEATS}
+use Rattle.sl_law_meaning.specs.declared.book.Majority.{Majority}
+use Rattle.sl_law_meaning.specs.declared.fault.Item.{Item}
+use Rattle.sl_law_meaning.specs.returns.Election.{Election}
+use Rattle.sl_law_meaning.specs.meaning.Scopes.{Group, place}
+use Rattle.sl_law_meaning.specs.meaning.Splits.{is_deprived, is_refuse, is_refused}
 use Rattle.sl_code_instructions.specs.declared.instr.Instr.TheVariants as op
 use Rattle.sl_code_instructions.specs.declared.operand.EndFault.TheVariants as end
 use Rattle.sl_code_instructions.specs.Codes.{CountingCode}
@@ -24,7 +24,7 @@ use Rattle.sl_compile_plans.specs.Trees.{Tree, Line, Then, If}
 use Rattle.sl_compile_plans.specs.Achieves.{Achieves}
 use Rattle.sl_compile_plans.proofs.Rules.{line_ends, if_zero, if_less, line_first, line_over}
 use Rattle.sl_compile_plans.proofs.KeepingRules.{achieves_keeping}
-use Rattle.sl_stages.specs.declared.table.Weight.{Weight}
+use Rattle.sl_law_meaning.specs.declared.table.Weight.{Weight}
 use Rattle.sl_compile_pieces.specs.inner.seats.Seated.{IsSeated}
 use Rattle.sl_compile_pieces.specs.arenas.Arenas.{Arena}
 use Rattle.sl_compile_pieces.specs.scopes.Forms.{Form, entries_plan, OnScope, OnItem, groups_of}

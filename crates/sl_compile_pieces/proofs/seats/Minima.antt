@@ -1,9 +1,9 @@
 -- The numbers of a scope's entries stay where their columns do, and there is a minimum for each entry.
 use Rattle.std.proofs.Common.{◌≡◌, ℕ, List, length, Option, Some, None, refl, sym, ap, ◌∙◌}
-use Rattle.sl_stages.specs.declared.fault.Item.{Item}
-use Rattle.sl_stages.specs.returns.Election.{Election}
-use Rattle.sl_stages.specs.meaning.Scopes.{place}
-use Rattle.sl_stages.proofs.methods.SeatSums.{length_zeros}
+use Rattle.sl_law_meaning.specs.declared.fault.Item.{Item}
+use Rattle.sl_law_meaning.specs.returns.Election.{Election}
+use Rattle.sl_law_meaning.specs.meaning.Scopes.{place}
+use Rattle.sl_law_meaning.proofs.methods.SeatSums.{length_zeros}
 use Rattle.sl_code_semantics.specs.State.{State}
 use Rattle.sl_compile_pieces.specs.seats.Slots.{HasCells, HasMinima}
 

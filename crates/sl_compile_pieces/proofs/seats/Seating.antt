@@ -1,12 +1,12 @@
 -- The plans of a seat and of a tie do what awards ask, in a split and in a growth.
 use Rattle.std.proofs.Common.{◌≡◌, ℕ, Bool, List, length, map, refl}
-use Rattle.sl_ratio.specs.declared.limits.TheConstants.{MAX_SEATS}
-use Rattle.sl_ratio.specs.declared.method.Divisor.{Divisor}
-use Rattle.sl_ratio.specs.declared.method.Method.TheVariants as by
-use Rattle.sl_stages.specs.returns.Election.{Election}
-use Rattle.sl_stages.specs.book.Typing.{is_prefer}
-use Rattle.sl_stages.specs.methods.LeastHouse.{outside_minima}
-use Rattle.sl_stages.specs.meaning.Scopes.{Group, place}
+use Rattle.sl_base_quotients.specs.declared.limits.TheConstants.{MAX_SEATS}
+use Rattle.sl_base_quotients.specs.declared.method.Divisor.{Divisor}
+use Rattle.sl_base_quotients.specs.declared.method.Method.TheVariants as by
+use Rattle.sl_law_meaning.specs.returns.Election.{Election}
+use Rattle.sl_law_meaning.specs.book.Typing.{is_prefer}
+use Rattle.sl_law_meaning.specs.methods.LeastHouse.{outside_minima}
+use Rattle.sl_law_meaning.specs.meaning.Scopes.{Group, place}
 use Rattle.sl_code_instructions.specs.Codes.{CountingCode}
 use Rattle.sl_code_semantics.specs.State.{State}
 use Rattle.sl_compile_pieces.specs.scopes.Forms.{Form, table_of}
@@ -24,9 +24,9 @@ use Rattle.sl_compile_pieces.proofs.seats.Minima.{minima_long}
 use Rattle.sl_compile_pieces.proofs.seats.Seat.{seats_are_given, seats_fit}
 use Rattle.sl_compile_pieces.proofs.seats.Again.{quotients_again, remainders_again}
 use Rattle.sl_compile_pieces.proofs.seats.Tying.{ties_end}
-use Rattle.sl_stages.specs.declared.book.Majority.{Majority}
-use Rattle.sl_ratio.specs.declared.method.Method.{Method}
-use Rattle.sl_stages.specs.declared.table.Weight.{Weight}
+use Rattle.sl_law_meaning.specs.declared.book.Majority.{Majority}
+use Rattle.sl_base_quotients.specs.declared.method.Method.{Method}
+use Rattle.sl_law_meaning.specs.declared.table.Weight.{Weight}
 
 module _ (c : CountingCode) (e : Election) (f : Form) (x : Slots) (name : List ℕ) (k : ℕ) (g : Group) (v m : List ℕ) (seats : ℕ) (before : State)
     (ready : IsReady c e f x name k g v m seats before) where

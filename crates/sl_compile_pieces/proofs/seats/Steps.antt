@@ -5,19 +5,19 @@ use Rattle.std.specs.List.{range_with_len, enumerate_from}
 use Rattle.std.proofs.lemmas.Bool.{le-ltb}
 use Rattle.std.proofs.lemmas.List.FromFn.{map-range_with_len_more}
 use Rattle.std.proofs.lemmas.List.Sorted.{IsPermutation-sym, IsPermutation-trans, IsPermutation-append_comm, IsPermutation-append_left, IsPermutation-append_right}
-use Rattle.sl_stages.specs.declared.fault.Item.{Item}
-use Rattle.sl_stages.specs.declared.fault.Scope.{Scope}
-use Rattle.sl_stages.specs.declared.table.Mark.{Mark}
-use Rattle.sl_stages.specs.declared.table.Mark.TheVariants as mark
-use Rattle.sl_stages.specs.declared.table.SeatStep.{SeatStep}
-use Rattle.sl_stages.specs.meaning.Scopes.{Group}
-use Rattle.sl_stages.specs.meaning.Records.{seat_step}
-use Rattle.sl_stages.specs.methods.Steps.{step_of}
-use Rattle.sl_stages.specs.laws.Ladders.{AreFalling, IsTop}
-use Rattle.sl_stages.specs.laws.Awards.{BatchLaws}
-use Rattle.sl_stages.proofs.meaning.ChangedPieces.{ChangesPiece, changes_piece}
-use Rattle.sl_stages.proofs.methods.LadderProofs.{batches}
-use Rattle.sl_stages.proofs.methods.RaisedSeats.{Contains-head}
+use Rattle.sl_law_meaning.specs.declared.fault.Item.{Item}
+use Rattle.sl_law_meaning.specs.declared.fault.Scope.{Scope}
+use Rattle.sl_law_meaning.specs.declared.table.Mark.{Mark}
+use Rattle.sl_law_meaning.specs.declared.table.Mark.TheVariants as mark
+use Rattle.sl_law_meaning.specs.declared.table.SeatStep.{SeatStep}
+use Rattle.sl_law_meaning.specs.meaning.Scopes.{Group}
+use Rattle.sl_law_meaning.specs.meaning.Records.{seat_step}
+use Rattle.sl_law_meaning.specs.methods.Steps.{step_of}
+use Rattle.sl_law_meaning.specs.laws.Ladders.{AreFalling, IsTop}
+use Rattle.sl_law_meaning.specs.laws.Awards.{BatchLaws}
+use Rattle.sl_law_meaning.proofs.meaning.ChangedPieces.{ChangesPiece, changes_piece}
+use Rattle.sl_law_meaning.proofs.methods.LadderProofs.{batches}
+use Rattle.sl_law_meaning.proofs.methods.RaisedSeats.{Contains-head}
 use Rattle.sl_compile_pieces.specs.arenas.Arenas.{Arena}
 use Rattle.sl_compile_pieces.specs.inner.awards.Batches.{Gets}
 use Rattle.sl_compile_pieces.specs.inner.awards.Awards.{IsCounted}

@@ -2,22 +2,22 @@
 use Rattle.std.proofs.Common.{◌≡◌, ℕ, ◌-◌, ◌<◌, ◌≤◌, List, [], ◌∷◌, map, sum, length, Some, slice_get, Contains, refl, ap, ◌∙◌, arith}
 use Rattle.std.specs.Prelude.{slice_index}
 use Rattle.std.specs.Option.{option_map}
-use Rattle.sl_ratio.specs.declared.entry.Entry.{Entry}
-use Rattle.sl_ratio.specs.declared.limits.TheConstants.{MAX_SEATS}
-use Rattle.sl_stages.specs.declared.fault.Item.{Item}
-use Rattle.sl_stages.specs.declared.fault.FaultKind.TheVariants as fault
-use Rattle.sl_stages.specs.declared.table.Weight.{Weight}
-use Rattle.sl_stages.specs.returns.Election.{Election}
-use Rattle.sl_stages.specs.methods.Ties.{AreTied, NamesAll}
-use Rattle.sl_stages.specs.meaning.Scopes.{Group}
-use Rattle.sl_stages.specs.meaning.Splits.{entries_at}
-use Rattle.sl_stages.specs.meaning.Results.{fault_at}
-use Rattle.sl_stages.specs.laws.Ladders.{IsPeer, IsTop}
-use Rattle.sl_stages.proofs.methods.RaisedSeats.{Contains-none, Contains-head, Contains-tail}
-use Rattle.sl_stages.proofs.methods.SeatSums.{entry_le_sum}
+use Rattle.sl_base_quotients.specs.declared.entry.Entry.{Entry}
+use Rattle.sl_base_quotients.specs.declared.limits.TheConstants.{MAX_SEATS}
+use Rattle.sl_law_meaning.specs.declared.fault.Item.{Item}
+use Rattle.sl_law_meaning.specs.declared.fault.FaultKind.TheVariants as fault
+use Rattle.sl_law_meaning.specs.declared.table.Weight.{Weight}
+use Rattle.sl_law_meaning.specs.returns.Election.{Election}
+use Rattle.sl_law_meaning.specs.methods.Ties.{AreTied, NamesAll}
+use Rattle.sl_law_meaning.specs.meaning.Scopes.{Group}
+use Rattle.sl_law_meaning.specs.meaning.Splits.{entries_at}
+use Rattle.sl_law_meaning.specs.meaning.Results.{fault_at}
+use Rattle.sl_law_meaning.specs.laws.Ladders.{IsPeer, IsTop}
+use Rattle.sl_law_meaning.proofs.methods.RaisedSeats.{Contains-none, Contains-head, Contains-tail}
+use Rattle.sl_law_meaning.proofs.methods.SeatSums.{entry_le_sum}
 use Rattle.sl_code_instructions.specs.Codes.{CountingCode}
-use Rattle.sl_prio.specs.Ranking.{ranked}
-use Rattle.sl_prio.specs.Prio.{top, peers}
+use Rattle.sl_base_rankings.specs.Ranking.{ranked}
+use Rattle.sl_base_rankings.specs.Peers.{top, peers}
 use Rattle.sl_code_semantics.specs.State.{State, Faulted}
 use Rattle.sl_code_semantics.specs.Places.{item_of}
 use Rattle.sl_code_semantics.proofs.effects.Records.{tie_ends}

@@ -1,14 +1,14 @@
 -- What the machine's instructions do where next seats wait in its table: each law is the contract of a function of `laws`.
 use Rattle.std.specs.Prelude.{◌≡◌, ℕ, ◌≤◌, List, ◌∷◌, Some, length, slice_index, IsPermutation}
-use Rattle.sl_ratio.specs.declared.entry.Entry.{Entry}
-use Rattle.sl_stages.specs.returns.Election.{Election}
-use Rattle.sl_stages.specs.methods.Ties.{Lists}
-use Rattle.sl_stages.specs.laws.Ladders.{Has, IsPeer}
+use Rattle.sl_base_quotients.specs.declared.entry.Entry.{Entry}
+use Rattle.sl_law_meaning.specs.returns.Election.{Election}
+use Rattle.sl_law_meaning.specs.methods.Ties.{Lists}
+use Rattle.sl_law_meaning.specs.laws.Ladders.{Has, IsPeer}
 use Rattle.sl_code_instructions.specs.declared.instr.Instr.TheVariants as instr
 use Rattle.sl_code_instructions.specs.Codes.{CountingCode}
-use Rattle.sl_prio.specs.Ranking.{ranked}
-use Rattle.sl_prio.specs.Prio.{top}
-use Rattle.sl_prio.specs.Lot.{drawn}
+use Rattle.sl_base_rankings.specs.Ranking.{ranked}
+use Rattle.sl_base_rankings.specs.Peers.{top}
+use Rattle.sl_base_rankings.specs.Lot.{drawn}
 use Rattle.sl_code_semantics.specs.State.{State}
 use Rattle.sl_code_semantics.specs.Drawn.{lot_of}
 use Rattle.sl_code_semantics.specs.Effects.{Goes, counts_peers, name_of, effect, with_table, with_entry}

@@ -1,22 +1,22 @@
 -- The laws of arenas, each of them the contract of a function of `laws`.
 use Rattle.std.specs.Prelude.{◌≡◌, ◌↔◌, ℕ, ◌+◌, ◌<◌, ◌≤◌, Bool, Some, IsTrue, Contains, List, [], ◌∷◌, ◌++◌, length, map, slice_get, slice_index, IsPermutation}
 use Rattle.std.specs.Option.{option_map}
-use Rattle.sl_ratio.specs.declared.entry.Entry.{Entry}
-use Rattle.sl_ratio.specs.declared.limits.TheConstants.{MAX_SEATS}
-use Rattle.sl_ratio.specs.declared.method.Divisor.{Divisor}
-use Rattle.sl_stages.specs.returns.Election.{Election, IsElection}
-use Rattle.sl_stages.specs.meaning.Seating.{winners_of}
-use Rattle.sl_stages.specs.methods.Field.{no_minima}
-use Rattle.sl_stages.specs.methods.LeastHouse.{outside_minima}
-use Rattle.sl_stages.specs.methods.Ties.{Lists, NamesAll}
-use Rattle.sl_stages.specs.methods.Ties as meaning
-use Rattle.sl_stages.specs.laws.Awards.{DrawsNext}
-use Rattle.sl_stages.specs.laws.Ladders.{Has, IsPeer, RaisesEach}
-use Rattle.sl_stages.specs.laws.Walks.{MidBatch}
+use Rattle.sl_base_quotients.specs.declared.entry.Entry.{Entry}
+use Rattle.sl_base_quotients.specs.declared.limits.TheConstants.{MAX_SEATS}
+use Rattle.sl_base_quotients.specs.declared.method.Divisor.{Divisor}
+use Rattle.sl_law_meaning.specs.returns.Election.{Election, IsElection}
+use Rattle.sl_law_meaning.specs.meaning.Seating.{winners_of}
+use Rattle.sl_law_meaning.specs.methods.Field.{no_minima}
+use Rattle.sl_law_meaning.specs.methods.LeastHouse.{outside_minima}
+use Rattle.sl_law_meaning.specs.methods.Ties.{Lists, NamesAll}
+use Rattle.sl_law_meaning.specs.methods.Ties as meaning
+use Rattle.sl_law_meaning.specs.laws.Awards.{DrawsNext}
+use Rattle.sl_law_meaning.specs.laws.Ladders.{Has, IsPeer, RaisesEach}
+use Rattle.sl_law_meaning.specs.laws.Walks.{MidBatch}
 use Rattle.sl_code_instructions.specs.declared.operand.Entries.{Entries}
-use Rattle.sl_prio.specs.Ranking.{ranked, insert_ranked, without}
-use Rattle.sl_prio.specs.Prio.{top, peers, is_covered}
-use Rattle.sl_prio.specs.Lot as machine
+use Rattle.sl_base_rankings.specs.Ranking.{ranked, insert_ranked, without}
+use Rattle.sl_base_rankings.specs.Peers.{top, peers, is_covered}
+use Rattle.sl_base_rankings.specs.Lot as machine
 use Rattle.sl_code_semantics.specs.Effects.{mark_of}
 use Rattle.sl_code_semantics.specs.SameLots.{SameLot}
 use Rattle.sl_compile_pieces.specs.arenas.Arenas.{Arena, IsArena, AreWeighed, seat_of, next_seat, waiting, divisor_arena, hamilton_arena, covering_arena}

@@ -2,13 +2,13 @@
 use Rattle.std.specs.Prelude.{◌≡◌, ◌≢◌, ℕ, ◌*◌, ◌<◌, Bool, List, [], Some, length, slice_get, slice_index, filter_map, flat_map}
 use Rattle.std.specs.List.{zip, AllZip}
 use Rattle.sl_base_terms.specs.declared.shape.Shape.TheVariants as shape
-use Rattle.sl_stages.specs.declared.fault.LegalFault.{LegalFault}
-use Rattle.sl_stages.specs.declared.returns.Win.{Win}
-use Rattle.sl_stages.specs.declared.table.Placed.TheVariants as placed
-use Rattle.sl_stages.specs.returns.Election.{Election, IsElection, lands_of, parties_of}
-use Rattle.sl_stages.specs.returns.Facts.{lists_of}
-use Rattle.sl_stages.specs.methods.Ties.{Choice}
-use Rattle.sl_stages.specs.meaning.Seating.{IsSeating, tie_of, seated_on, cover_place}
+use Rattle.sl_law_meaning.specs.declared.fault.LegalFault.{LegalFault}
+use Rattle.sl_law_meaning.specs.declared.election.Win.{Win}
+use Rattle.sl_law_meaning.specs.declared.table.Placed.TheVariants as placed
+use Rattle.sl_law_meaning.specs.returns.Election.{Election, IsElection, lands_of, parties_of}
+use Rattle.sl_law_meaning.specs.returns.Facts.{lists_of}
+use Rattle.sl_law_meaning.specs.methods.Ties.{Choice}
+use Rattle.sl_law_meaning.specs.meaning.Seating.{IsSeating, tie_of, seated_on, cover_place}
 use Rattle.sl_code_instructions.specs.Codes.{CountingCode}
 use Rattle.sl_code_semantics.specs.State.{State, End, Faulted}
 use Rattle.sl_code_semantics.specs.Effects.{one_if}

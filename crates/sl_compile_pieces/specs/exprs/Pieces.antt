@@ -1,12 +1,12 @@
 -- The plans of an expression: those of its arguments from left to right, and then its own (docs/compiler.md, section 4).
 use Rattle.std.specs.Prelude.{ℕ, ◌+◌, List, [], ◌∷◌, ◌++◌, Option, None, Some, option_map, position, unwrap_or}
-use Rattle.sl_ratio.specs.declared.method.Method.{Method}
-use Rattle.sl_ratio.specs.declared.method.Method.TheVariants as by
-use Rattle.sl_stages.specs.declared.book.Majority.{Majority}
+use Rattle.sl_base_quotients.specs.declared.method.Method.{Method}
+use Rattle.sl_base_quotients.specs.declared.method.Method.TheVariants as by
+use Rattle.sl_law_meaning.specs.declared.book.Majority.{Majority}
 use Rattle.sl_base_terms.specs.declared.shape.Shape.{Shape}
 use Rattle.sl_base_terms.specs.declared.shape.Shape.TheVariants as shape
-use Rattle.sl_stages.specs.book.Trees.{ExprTree, fact, name, sum, pair, split, without, atleast, grow}
-use Rattle.sl_stages.specs.book.Typing.{Column, type_of, is_named}
+use Rattle.sl_law_meaning.specs.book.Trees.{ExprTree, fact, name, sum, pair, split, without, atleast, grow}
+use Rattle.sl_law_meaning.specs.book.Typing.{Column, type_of, is_named}
 use Rattle.sl_compile_plans.specs.Trees.{Tree}
 use Rattle.sl_compile_pieces.specs.declared.arguments.Arguments.{Arguments}
 use Rattle.sl_compile_pieces.specs.scopes.Forms.{Form, AllParties, AllLands, AllLists, ListsOfParty, ListsInLand}

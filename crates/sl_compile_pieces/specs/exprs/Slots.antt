@@ -2,10 +2,10 @@
 use Rattle.std.specs.Prelude.{◌≡◌, ℕ, ◌+◌, ◌*◌, ◌≤◌, List, Some, slice_get}
 use Rattle.sl_base_terms.specs.declared.shape.Shape.{Shape}
 use Rattle.sl_base_terms.specs.declared.shape.Shape.TheVariants as shape
-use Rattle.sl_stages.specs.declared.fact.Fact.{Fact}
-use Rattle.sl_stages.specs.declared.fact.Fact.TheVariants as facts
-use Rattle.sl_stages.specs.declared.limits.TheConstants.{MAX_DEPTH}
-use Rattle.sl_stages.specs.book.Typing.{Column, fact_number, fact_type}
+use Rattle.sl_law_meaning.specs.declared.fact.Fact.{Fact}
+use Rattle.sl_law_meaning.specs.declared.fact.Fact.TheVariants as facts
+use Rattle.sl_law_meaning.specs.declared.limits.TheConstants.{MAX_DEPTH}
+use Rattle.sl_law_meaning.specs.book.Typing.{Column, fact_number, fact_type}
 use Rattle.sl_base_terms.specs.Shapes.{shape_number}
 use Rattle.sl_code_instructions.specs.Codes.{CountingCode}
 use Rattle.sl_compile_pieces.specs.declared.slots.TheConstants.{ELIGIBLE, FIRST_FACT, VOTES, NUMBERS}

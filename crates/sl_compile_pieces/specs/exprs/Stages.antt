@@ -2,15 +2,15 @@
 -- first fault (docs/compiler.md, section 5).
 use Rattle.std.specs.Prelude.{◌≡◌, ℕ, ◌+◌, ◌<◌, ◌≤◌, true, List, [], ◌∷◌, ◌++◌, None, Some, length, slice_get}
 use Rattle.std.specs.List.{AllZip, list_all}
-use Rattle.sl_stages.specs.declared.fault.LegalFault.{LegalFault}
+use Rattle.sl_law_meaning.specs.declared.fault.LegalFault.{LegalFault}
 use Rattle.sl_base_terms.specs.declared.limits.TheConstants.{MAX_STAGES}
 use Rattle.sl_base_terms.specs.Tests.{first_failing}
-use Rattle.sl_stages.specs.book.Trees.{StageTree, BookTree}
-use Rattle.sl_stages.specs.book.Limits.{is_within_stage}
-use Rattle.sl_stages.specs.book.Typing.{Column, type_of, stage_column, columns_of, stages_tests, is_typed}
-use Rattle.sl_stages.specs.returns.Election.{Election, IsElection}
-use Rattle.sl_stages.specs.meaning.Means.{Known, Through, Stopped, StagesMean}
-use Rattle.sl_stages.specs.laws.ColumnLaws.{IsTypedAs}
+use Rattle.sl_law_meaning.specs.book.Trees.{StageTree, BookTree}
+use Rattle.sl_law_meaning.specs.book.Limits.{is_within_stage}
+use Rattle.sl_law_meaning.specs.book.Typing.{Column, type_of, stage_column, columns_of, stages_tests, is_typed}
+use Rattle.sl_law_meaning.specs.returns.Election.{Election, IsElection}
+use Rattle.sl_law_meaning.specs.meaning.Means.{Known, Through, Stopped, StagesMean}
+use Rattle.sl_law_meaning.specs.laws.ColumnLaws.{IsTypedAs}
 use Rattle.sl_code_instructions.specs.declared.code.CodeStage.{CodeStage}
 use Rattle.sl_code_instructions.specs.Codes.{CountingCode}
 use Rattle.sl_code_semantics.specs.State.{State, End, Faulted}

@@ -1,19 +1,19 @@
 -- What the plan of a split or of a growth achieves: the column and the records that it means, or the fault that it means (docs/blocks.md, section 4).
 use Rattle.std.specs.Prelude.{◌≡◌, ◌≢◌, ℕ, ◌≤◌, List, Option, Some}
-use Rattle.sl_ratio.specs.declared.limits.TheConstants.{MAX_SEATS}
-use Rattle.sl_ratio.specs.declared.method.Divisor.{Divisor}
-use Rattle.sl_ratio.specs.declared.method.Method.{Method}
-use Rattle.sl_ratio.specs.declared.method.Method.TheVariants as by
-use Rattle.sl_stages.specs.declared.book.Majority.{Majority}
+use Rattle.sl_base_quotients.specs.declared.limits.TheConstants.{MAX_SEATS}
+use Rattle.sl_base_quotients.specs.declared.method.Divisor.{Divisor}
+use Rattle.sl_base_quotients.specs.declared.method.Method.{Method}
+use Rattle.sl_base_quotients.specs.declared.method.Method.TheVariants as by
+use Rattle.sl_law_meaning.specs.declared.book.Majority.{Majority}
 use Rattle.sl_base_terms.specs.declared.shape.Shape.TheVariants as shape
-use Rattle.sl_stages.specs.declared.fault.LegalFault.{LegalFault}
-use Rattle.sl_stages.specs.returns.Election.{Election, IsElection}
-use Rattle.sl_stages.specs.meaning.Scopes.{Group}
-use Rattle.sl_stages.specs.meaning.Records.{Records}
-use Rattle.sl_stages.specs.meaning.Splits.{Award}
-use Rattle.sl_stages.specs.meaning.Results.{ExprResult, Column, Fault, IsShared}
-use Rattle.sl_stages.specs.meaning.Expressions.{IsSplit, IsGrown}
-use Rattle.sl_stages.specs.laws.OneLaws.{FitsMethod}
+use Rattle.sl_law_meaning.specs.declared.fault.LegalFault.{LegalFault}
+use Rattle.sl_law_meaning.specs.returns.Election.{Election, IsElection}
+use Rattle.sl_law_meaning.specs.meaning.Scopes.{Group}
+use Rattle.sl_law_meaning.specs.meaning.Records.{Records}
+use Rattle.sl_law_meaning.specs.meaning.Splits.{Award}
+use Rattle.sl_law_meaning.specs.meaning.Results.{ExprResult, Column, Fault, IsShared}
+use Rattle.sl_law_meaning.specs.meaning.Expressions.{IsSplit, IsGrown}
+use Rattle.sl_law_meaning.specs.laws.OneLaws.{FitsMethod}
 use Rattle.sl_code_instructions.specs.Codes.{CountingCode}
 use Rattle.sl_code_semantics.specs.State.{State, End, Faulted}
 use Rattle.sl_compile_plans.specs.Trees.{Tree}

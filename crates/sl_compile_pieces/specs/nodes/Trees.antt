@@ -1,9 +1,9 @@
 -- The plans of a split and of a growth (docs/blocks.md, section 4).
 use Rattle.std.specs.Prelude.{ℕ, [], ◌∷◌}
-use Rattle.sl_ratio.specs.declared.method.Divisor.{Divisor}
-use Rattle.sl_ratio.specs.declared.method.Method.{Method}
-use Rattle.sl_ratio.specs.declared.method.Method.TheVariants as by
-use Rattle.sl_stages.specs.declared.book.Majority.{Majority}
+use Rattle.sl_base_quotients.specs.declared.method.Divisor.{Divisor}
+use Rattle.sl_base_quotients.specs.declared.method.Method.{Method}
+use Rattle.sl_base_quotients.specs.declared.method.Method.TheVariants as by
+use Rattle.sl_law_meaning.specs.declared.book.Majority.{Majority}
 use Rattle.sl_code_instructions.specs.declared.instr.Instr.TheVariants.{Set, Mov, Add, Sub, Max, Get, Store, Zero, Table, Prio}
 use Rattle.sl_code_instructions.specs.declared.operand.EndFault.TheVariants as end
 use Rattle.sl_code_instructions.specs.declared.operand.Ranking.TheVariants as ranking

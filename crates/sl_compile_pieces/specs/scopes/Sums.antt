@@ -1,7 +1,7 @@
 -- The plan that sums a column over the entries of a scope.
 use Rattle.std.specs.Prelude.{◌≡◌, ◌≢◌, ℕ, [], ◌∷◌, min, sum_by, Some, slice_get}
-use Rattle.sl_stages.specs.returns.Election.{Election}
-use Rattle.sl_stages.specs.meaning.Scopes.{Group, place}
+use Rattle.sl_law_meaning.specs.returns.Election.{Election}
+use Rattle.sl_law_meaning.specs.meaning.Scopes.{Group, place}
 use Rattle.sl_code_instructions.specs.declared.instr.Instr.TheVariants.{Set, Get, Add}
 use Rattle.sl_code_instructions.specs.Codes.{CountingCode}
 use Rattle.sl_code_semantics.specs.State.{State}

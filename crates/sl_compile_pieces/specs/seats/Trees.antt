@@ -1,12 +1,12 @@
 -- The plans of a scope: sums, the first seats and the entries of the table, a seat awarded, the majority clause (docs/blocks.md, section 3).
 use Rattle.std.specs.Prelude.{ℕ, List, [], ◌∷◌, ◌++◌, Option, None, Some, is_none, if◌then◌else◌}
-use Rattle.sl_ratio.specs.declared.method.Divisor.{Divisor}
-use Rattle.sl_ratio.specs.declared.method.Method.{Method}
-use Rattle.sl_ratio.specs.declared.method.Method.TheVariants as by
-use Rattle.sl_ratio.specs.declared.limits.TheConstants.{MAX_SEATS}
-use Rattle.sl_stages.specs.declared.book.Majority.{Majority}
-use Rattle.sl_stages.specs.book.Typing.{is_prefer}
-use Rattle.sl_stages.specs.meaning.Splits.{is_refuse}
+use Rattle.sl_base_quotients.specs.declared.method.Divisor.{Divisor}
+use Rattle.sl_base_quotients.specs.declared.method.Method.{Method}
+use Rattle.sl_base_quotients.specs.declared.method.Method.TheVariants as by
+use Rattle.sl_base_quotients.specs.declared.limits.TheConstants.{MAX_SEATS}
+use Rattle.sl_law_meaning.specs.declared.book.Majority.{Majority}
+use Rattle.sl_law_meaning.specs.book.Typing.{is_prefer}
+use Rattle.sl_law_meaning.specs.meaning.Splits.{is_refuse}
 use Rattle.sl_code_instructions.specs.declared.instr.Instr.{Instr}
 use Rattle.sl_code_instructions.specs.declared.instr.Instr.TheVariants.{Set, Mov, Add, Sub, Mul, Div, Rem, Get, Store, Table, Prio, Rest, Lead, Emit, Given, Fault, Tie, Weigh}
 use Rattle.sl_code_instructions.specs.declared.operand.EndFault.{EndFault}

@@ -1,11 +1,11 @@
 -- The end of a count in what the run of its code holds.
 use Rattle.std.specs.Prelude.{All, List, [], length, map, slice_index_or, ◌<◌, ◌≡◌, ℕ}
-use Rattle.sl_stages.specs.declared.count.Column.{Column}
-use Rattle.sl_stages.specs.declared.count.Counted.{Counted as Kept}
-use Rattle.sl_stages.specs.declared.count.End.TheVariants as end
-use Rattle.sl_stages.specs.declared.count.End.{End}
-use Rattle.sl_stages.specs.declared.count.Records.TheVariants.{Dropped, Kept as WithRecords}
-use Rattle.sl_stages.specs.declared.count.Records.{Records}
+use Rattle.sl_law_meaning.specs.declared.count.Column.{Column}
+use Rattle.sl_law_meaning.specs.declared.count.Counted.{Counted as Kept}
+use Rattle.sl_law_meaning.specs.declared.count.End.TheVariants as end
+use Rattle.sl_law_meaning.specs.declared.count.End.{End}
+use Rattle.sl_law_meaning.specs.declared.count.Records.TheVariants.{Dropped, Kept as WithRecords}
+use Rattle.sl_law_meaning.specs.declared.count.Records.{Records}
 use Rattle.sl_code_instructions.specs.Codes.{CountingCode}
 use Rattle.sl_machine.specs.declared.machine.Ending.TheVariants as answer
 use Rattle.sl_machine.specs.declared.machine.Ending.{Ending as Answer}
@@ -13,7 +13,7 @@ use Rattle.sl_code_semantics.specs.Memories.{Held}
 use Rattle.sl_code_semantics.specs.Runs.{Ending}
 use Rattle.sl_code_semantics.specs.Tables.{held_table}
 use Rattle.sl_code_semantics.specs.Unrecorded.{without_records}
-use Rattle.sl_stages.specs.returns.Election.{Election}
+use Rattle.sl_law_meaning.specs.returns.Election.{Election}
 use Rattle.sl_base_terms.specs.declared.shape.Shape.TheVariants as shape
 use Rattle.sl_base_terms.specs.declared.shape.Shape.{Shape}
 use Rattle.sl_count_texts.specs.inner.Fits.{Fits}

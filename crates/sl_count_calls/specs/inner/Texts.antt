@@ -2,17 +2,17 @@
 use Rattle.std.specs.Prelude.{List, Some, length, slice_get, ◌<◌, ◌≡◌, ℕ}
 use Rattle.sl_count_calls.specs.Outcomes.{code_names}
 use Rattle.sl_count_calls.specs.declared.counting.Counting.{Counting}
-use Rattle.sl_stages.specs.meaning.Counts.{IsMeantEnd}
-use Rattle.sl_stages.specs.declared.count.Column.{Column}
-use Rattle.sl_stages.specs.declared.count.Counted.{Counted}
-use Rattle.sl_stages.specs.declared.count.Records.TheVariants.{Kept}
-use Rattle.sl_stages.specs.declared.count.Records.{Records}
+use Rattle.sl_law_meaning.specs.meaning.Counts.{IsMeantEnd}
+use Rattle.sl_law_meaning.specs.declared.count.Column.{Column}
+use Rattle.sl_law_meaning.specs.declared.count.Counted.{Counted}
+use Rattle.sl_law_meaning.specs.declared.count.Records.TheVariants.{Kept}
+use Rattle.sl_law_meaning.specs.declared.count.Records.{Records}
 use Rattle.sl_count_calls.specs.declared.report.Report.TheVariants.{Seats, Stage, Steps}
 use Rattle.sl_count_calls.specs.declared.report.Report.{Report}
 use Rattle.sl_code_instructions.specs.Codes.{CountingCode}
-use Rattle.sl_stages.specs.book.Books.{book_of}
-use Rattle.sl_stages.specs.book.Trees.{BookTree}
-use Rattle.sl_stages.specs.returns.Election.{Election}
+use Rattle.sl_law_meaning.specs.book.Books.{book_of}
+use Rattle.sl_law_meaning.specs.book.Trees.{BookTree}
+use Rattle.sl_law_meaning.specs.returns.Election.{Election}
 use Rattle.sl_table.specs.Stages.{stage_text}
 use Rattle.sl_count_texts.specs.Short.{short_text}
 use Rattle.sl_count_texts.specs.Steps.{IsStepsText}

@@ -1,7 +1,7 @@
 -- What the body of the bounds lines promises on the way.
 use Rattle.std.specs.Prelude.{◌≡◌, ℕ, ◌+◌, false, List, Option, Some, None, All, unwrap_or, bytes_eq}
 use Rattle.std.specs.HashMap.{HashMap, get}
-use Rattle.sl_stages.specs.declared.table.Weight.{Weight}
+use Rattle.sl_law_meaning.specs.declared.table.Weight.{Weight}
 use Rattle.sl_count_texts.specs.Lines.{Draft, with_lines}
 use Rattle.sl_count_texts.specs.Orders.{weight_key}
 

@@ -1,8 +1,8 @@
 -- Which tables fit which returns (docs/output.md, section 1).
 use Rattle.std.specs.Prelude.{◌≡◌, ◌<◌, All, length}
-use Rattle.sl_stages.specs.declared.table.ListSeats.{ListSeats}
-use Rattle.sl_stages.specs.returns.Election.{Election, lands_of, parties_of}
-use Rattle.sl_stages.specs.meaning.Tables.{SeatTable}
+use Rattle.sl_law_meaning.specs.declared.table.ListSeats.{ListSeats}
+use Rattle.sl_law_meaning.specs.returns.Election.{Election, lands_of, parties_of}
+use Rattle.sl_law_meaning.specs.meaning.Tables.{SeatTable}
 
 -- a list is of a Land and of a party of the election
 abbrev pub IsOf : Election → ListSeats → Type 0

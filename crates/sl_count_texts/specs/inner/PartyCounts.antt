@@ -1,11 +1,11 @@
 -- What is counted for the lines of the parties.
 use Rattle.std.specs.Prelude.{◌≡◌, ℕ, ◌+◌, ◌^◌, ◌≤◌, ◌&&◌, Bool, All, List, Option, None, count_by, sum_by, if◌then◌else◌}
-use Rattle.sl_stages.specs.declared.returns.Win.{Win}
-use Rattle.sl_stages.specs.declared.table.ListSeats.{ListSeats}
-use Rattle.sl_stages.specs.declared.table.Placed.{Placed}
-use Rattle.sl_stages.specs.returns.Election.{Election}
-use Rattle.sl_stages.specs.returns.Facts.{by_party, is_of}
-use Rattle.sl_stages.specs.meaning.Tables.{SeatTable}
+use Rattle.sl_law_meaning.specs.declared.election.Win.{Win}
+use Rattle.sl_law_meaning.specs.declared.table.ListSeats.{ListSeats}
+use Rattle.sl_law_meaning.specs.declared.table.Placed.{Placed}
+use Rattle.sl_law_meaning.specs.returns.Election.{Election}
+use Rattle.sl_law_meaning.specs.returns.Facts.{by_party, is_of}
+use Rattle.sl_law_meaning.specs.meaning.Tables.{SeatTable}
 use Rattle.sl_count_texts.specs.Short.{is_list_of, is_seated, is_single, places, seated_of, singles_of}
 use Rattle.sl_count_texts.specs.declared.party_counts.Counted.{Counted}
 use Rattle.sl_count_texts.specs.declared.party_counts.Counted.TheVariants as counted

@@ -1,19 +1,19 @@
 //! Checking a rulebook: from its bytes to the line of a good book.
 
 ghost use Rattle.std.specs.Prelude.{◌≡◌, IfOk, IfSome};
-ghost use Rattle.sl_stages.specs.book.Books.{book_of};
+ghost use Rattle.sl_law_meaning.specs.book.Books.{book_of};
 ghost use Rattle.sl_count_inputs.specs.Failures.{counts, counts_after};
 ghost use Rattle.sl_desk.specs.Checking.{IsCheck, IsCheckOutput, check_line};
 ghost use Rattle.sl_count_inputs.specs.Judging.{tree_verdict};
 ghost use Rattle.sl_count_inputs.specs.Reading.{book_input, book_failures, ReadsBook};
 ghost use Rattle.sl_count_inputs.specs.Writing.{Delivers};
 
+use sl_base_quotients::NoMemory;
 use sl_check::CheckedBook;
 use sl_count_calls::Answer;
 use sl_count_inputs::{
     BookSource, DeskError, RefusedBook, Sink, Source, Status, Verdict, read_book,
 };
-use sl_ratio::NoMemory;
 use sl_stages::Book;
 use sl_table::Text;
 use std::alloc::Global;

@@ -1,7 +1,7 @@
 //! Compiling a rulebook: from its bytes to a code file and the listing of its instructions.
 
 ghost use Rattle.std.specs.Prelude.{◌≡◌, IfOk, IfErr, IfSome};
-ghost use Rattle.sl_stages.specs.book.Books.{book_of};
+ghost use Rattle.sl_law_meaning.specs.book.Books.{book_of};
 ghost use Rattle.sl_count_inputs.specs.Failures.{counts, counts_after, FailsInOne};
 ghost use Rattle.sl_code.specs.Listing.{listing_of};
 ghost use Rattle.sl_code.specs.Spelling.{spelling_of};
@@ -11,6 +11,7 @@ ghost use Rattle.sl_count_inputs.specs.Judging.{tree_verdict};
 ghost use Rattle.sl_count_inputs.specs.Reading.{book_input, book_failures, ReadsBook};
 ghost use Rattle.sl_count_inputs.specs.Writing.{DeliversBoth};
 
+use sl_base_quotients::NoMemory;
 use sl_check::CheckedBook;
 use sl_code::{listing, to_bytes};
 use sl_code_instructions::Code;
@@ -19,7 +20,6 @@ use sl_count_calls::Answer;
 use sl_count_inputs::{
     BookSource, DeskError, RefusedBook, Sink, Source, Status, Verdict, read_book, write_all,
 };
-use sl_ratio::NoMemory;
 use std::alloc::Global;
 
 /// The bytes of a code file, and what is written after it.

@@ -10,6 +10,7 @@ ghost use Rattle.sl_count_inputs.specs.declared.limits.TheConstants.{MAX_CODE_BY
 ghost use Rattle.sl_machine.specs.Fits.{Fits};
 
 use crate::runs::run_text;
+use sl_base_quotients::NoMemory;
 use sl_code_semantics::Verified;
 use sl_count_calls::Answer;
 use sl_count_code_files::{CodeRefusal, ReadCode, read_code};
@@ -17,7 +18,6 @@ use sl_count_inputs::{
     DeskError, ReadReturns, RefusedElection, Sink, Source, Status, Verdict, read_election,
 };
 use sl_machine::{Ending, budget, run_unrecorded};
-use sl_ratio::NoMemory;
 use sl_stages::Returns;
 use std::alloc::Global;
 

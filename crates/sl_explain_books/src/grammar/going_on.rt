@@ -8,7 +8,7 @@ use crate::pieces::{piece, span_within};
 use crate::texts::{NAME_WORD, NUMBER_WORD, TEXT_WORD};
 use sl_explain_texts::Speaker;
 use sl_lex::{KEYWORDS, Mark, Token};
-use sl_ratio::NoMemory;
+use sl_base_quotients::NoMemory;
 use std::alloc::Global;
 
 // The sorts that a sentence names before the keywords.

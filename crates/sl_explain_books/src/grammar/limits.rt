@@ -10,8 +10,8 @@ use crate::texts::{
 };
 use sl_explain_texts::{Explanation, FaultCode, Language, Message, Sentence, Span, Speaker};
 use sl_lex::{Keyword, Kind, Mark, Token};
-use sl_ratio::NoMemory;
-use sl_stages::{MAX_DEPTH, MAX_PARTS, MAX_STAGES};
+use sl_base_quotients::NoMemory;
+use sl_law_meaning::{MAX_DEPTH, MAX_PARTS, MAX_STAGES};
 use std::alloc::Global;
 
 /// Explains a book that has too many bytes.

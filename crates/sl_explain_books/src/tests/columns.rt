@@ -5,8 +5,8 @@ use crate::texts::{
 };
 use sl_check::Columns;
 use sl_explain_texts::Speaker;
-use sl_ratio::NoMemory;
-use sl_stages::{ColumnType, Shape, Stage, Unit};
+use sl_base_quotients::NoMemory;
+use sl_law_meaning::{ColumnType, Shape, Stage, Unit};
 use std::alloc::Global;
 
 /// What a column has, in words.

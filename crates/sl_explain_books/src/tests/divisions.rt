@@ -13,8 +13,8 @@ use crate::texts::{
 };
 use sl_explain_texts::{Explanation, FaultCode, Message, Span, Speaker};
 use sl_parse::method_keyword;
-use sl_ratio::{Method, NoMemory};
-use sl_stages::{Book, ColumnType, Shape, Unit};
+use sl_base_quotients::{Method, NoMemory};
+use sl_law_meaning::{Book, ColumnType, Shape, Unit};
 
 // What to do about minima that do not fit the votes.
 fn minima_remedy(votes: ColumnType, minima: ColumnType) -> &'static Message {

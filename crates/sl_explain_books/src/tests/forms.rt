@@ -15,8 +15,8 @@ use crate::texts::{
 };
 use sl_check::Columns;
 use sl_explain_texts::{Explanation, FaultCode, Message, Sentence, Span, Speaker};
-use sl_ratio::NoMemory;
-use sl_stages::{Axis, Book, ColumnType, Shape, Stage};
+use sl_base_quotients::NoMemory;
+use sl_law_meaning::{Axis, Book, ColumnType, Shape, Stage};
 
 /// More than one split or growth in a stage.
 pub fn explain_two_splits(speaker: Speaker, text: &[u8], at: usize) -> Result<Explanation, NoMemory>

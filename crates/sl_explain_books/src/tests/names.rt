@@ -3,7 +3,7 @@
 ghost use Rattle.std.specs.Prelude.{◌≡◌, IfOk, None, Some, map, option_map};
 ghost use Rattle.sl_explain_books.specs.Further.{stage_at};
 ghost use Rattle.sl_explain_texts.specs.declared.code.FaultCode.TheVariants.{B14, B15, B21};
-ghost use Rattle.sl_stages.specs.book.Trees.{stage_of};
+ghost use Rattle.sl_law_meaning.specs.book.Trees.{stage_of};
 
 use super::columns::{column_words, types_of};
 use crate::near::{columns_of_returns, help_nearest_stage, help_stages};
@@ -14,8 +14,8 @@ use crate::texts::{
 };
 use sl_check::Columns;
 use sl_explain_texts::{Explanation, FaultCode, Message, Sentence, Span, Speaker};
-use sl_ratio::NoMemory;
-use sl_stages::{Base, Book, ColumnType, Shape, Stage, Unit};
+use sl_base_quotients::NoMemory;
+use sl_law_meaning::{Base, Book, ColumnType, Shape, Stage, Unit};
 
 // How many stages begin before an offset.
 fn stages_before(stages: &[Stage], at: usize) -> usize {

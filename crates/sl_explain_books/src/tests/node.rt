@@ -1,8 +1,8 @@
 //! A form in an expression, with what its arguments have.
 
 use sl_check::Columns;
-use sl_ratio::Method;
-use sl_stages::{Axis, ColumnType, Expr, Pairing};
+use sl_base_quotients::Method;
+use sl_law_meaning::{Axis, ColumnType, Expr, Pairing};
 
 /// A split or a growth.
 #[derive(Clone, Copy)]

@@ -9,8 +9,8 @@ use crate::texts::{
     SHARE_ZERO_REMEDY, VACATE, VACATE_REMEDY, VERSIONS,
 };
 use sl_explain_texts::{Explanation, FaultCode, Message, Sentence, Span, Speaker};
-use sl_ratio::NoMemory;
-use sl_stages::{Book, Cond, MAX_PER, MAX_SEATS};
+use sl_base_quotients::NoMemory;
+use sl_law_meaning::{Book, Cond, MAX_PER, MAX_SEATS};
 
 /// A version that does not exist, or `vacate` in the first one.
 pub fn explain_version(

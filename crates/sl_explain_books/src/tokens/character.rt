@@ -11,7 +11,7 @@ use crate::texts::{
     POINT, QUOTES, RIGHT_FILE, TEXT_LETTER, TEXT_PLAIN, UNDERSCORE, UNEXPECTED,
 };
 use sl_explain_texts::{Explanation, FaultCode, Message, Sentence, Span, Speaker};
-use sl_ratio::NoMemory;
+use sl_base_quotients::NoMemory;
 
 // The letters that stand just before an offset.
 fn letters_before(text: &[u8], at: usize) -> &[u8] {

@@ -1,8 +1,8 @@
 -- The claims of an allocation, as the searches find them.
 use Rattle.std.specs.Prelude.{◌≡◌, ℕ, ◌<◌, List, Option, Some, None, slice_index}
-use Rattle.sl_ratio.specs.declared.method.Divisor.{Divisor}
-use Rattle.sl_ratio.specs.Quotient.{Quotient, AtMost}
-use Rattle.sl_ratio.specs.Bounds.{HasWeight, IsLast, IsNext, last_quotient, next_quotient}
+use Rattle.sl_base_quotients.specs.declared.method.Divisor.{Divisor}
+use Rattle.sl_base_quotients.specs.Quotient.{Quotient, AtMost}
+use Rattle.sl_base_quotients.specs.Bounds.{HasWeight, IsLast, IsNext, last_quotient, next_quotient}
 
 -- the quotient of who won the last seat, or nothing where no entry of the field has a seat
 abbrev pub IsLeastLast : Divisor → List ℕ → List ℕ → Option Quotient → Type 0

@@ -1,8 +1,8 @@
 -- Whether all but one entry can fill their seats by claims that are no smaller than the next one of that entry.
 use Rattle.std.specs.Prelude.{◌≡◌, ◌≢◌, ℕ, ◌+◌, ◌-◌, ◌<◌, ◌≤◌, Bool, true, false, List, length, sum, slice_index}
-use Rattle.sl_ratio.specs.declared.method.Divisor.{Divisor}
-use Rattle.sl_ratio.specs.Quotient.{Quotient, AtMost, Below, quotient}
-use Rattle.sl_ratio.specs.Bounds.{HasWeight}
+use Rattle.sl_base_quotients.specs.declared.method.Divisor.{Divisor}
+use Rattle.sl_base_quotients.specs.Quotient.{Quotient, AtMost, Below, quotient}
+use Rattle.sl_base_quotients.specs.Bounds.{HasWeight}
 use Rattle.sl_law_margins.specs.VotesToSpare.{with_fewer}
 
 -- the weight w has a seats by claims that are no smaller than this one, of at most so many: and all of them where they are fewer

@@ -1,7 +1,7 @@
 -- The weight with which an entry's last quotient is above the next one of every other entry.
 use Rattle.std.specs.Prelude.{◌≡◌, ◌≢◌, ℕ, ◌-◌, ◌<◌, List, Option, Some, None, slice_index}
-use Rattle.sl_ratio.specs.declared.method.Divisor.{Divisor}
-use Rattle.sl_ratio.specs.Bounds.{HasWeight, next_quotient}
+use Rattle.sl_base_quotients.specs.declared.method.Divisor.{Divisor}
+use Rattle.sl_base_quotients.specs.Bounds.{HasWeight, next_quotient}
 use Rattle.sl_law_margins.specs.inner.Needed.{IsLeast, IsAbove}
 
 -- with the weight w the last quotient of i is above the next one of each other entry among the first n that has votes

@@ -1,8 +1,8 @@
 -- Allocations with minima, as they are tested.
 use Rattle.std.specs.Prelude.{◌≡◌, ℕ, ◌<◌, ◌≤◌, List, length, slice_index}
-use Rattle.sl_ratio.specs.declared.method.Divisor.{Divisor}
-use Rattle.sl_ratio.specs.Quotient.{AtMost}
-use Rattle.sl_ratio.specs.Bounds.{HasWeight, last_quotient, next_quotient}
+use Rattle.sl_base_quotients.specs.declared.method.Divisor.{Divisor}
+use Rattle.sl_base_quotients.specs.Quotient.{AtMost}
+use Rattle.sl_base_quotients.specs.Bounds.{HasWeight, last_quotient, next_quotient}
 
 -- each entry has its minimum, and just that if it has no votes
 abbrev pub AreMet : List ℕ → List ℕ → List ℕ → Type 0

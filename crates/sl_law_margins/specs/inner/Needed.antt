@@ -1,9 +1,9 @@
 -- The weight with which an entry's next quotient is above the last one of another entry.
 use Rattle.std.specs.Prelude.{◌≡◌, ◌≢◌, ℕ, ◌*◌, ◌<◌, ◌≤◌, List, Option, Some, None, slice_index, min}
-use Rattle.sl_ratio.specs.declared.method.Divisor.{Divisor}
-use Rattle.sl_ratio.specs.declared.method.Divisor.TheVariants.{Adams, Dean, Hill, Webster, Jefferson}
-use Rattle.sl_ratio.specs.Quotient.{Quotient, Below, quotient}
-use Rattle.sl_ratio.specs.Bounds.{last_quotient}
+use Rattle.sl_base_quotients.specs.declared.method.Divisor.{Divisor}
+use Rattle.sl_base_quotients.specs.declared.method.Divisor.TheVariants.{Adams, Dean, Hill, Webster, Jefferson}
+use Rattle.sl_base_quotients.specs.Quotient.{Quotient, Below, quotient}
+use Rattle.sl_base_quotients.specs.Bounds.{last_quotient}
 
 -- a weight as quotients have it: squared under Hill
 abbrev pub power_of : Divisor → ℕ → ℕ

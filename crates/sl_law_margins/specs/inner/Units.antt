@@ -1,7 +1,7 @@
 -- Numbers of units of 10 ^ -places, as divisors are looked for.
 use Rattle.std.specs.Prelude.{◌≡◌, ℕ, ◌+◌, ◌*◌, ◌^◌, ◌<◌, ◌≤◌, ◌↔◌, Option, Some, None, MatchOption}
-use Rattle.sl_ratio.specs.declared.method.Divisor.{Divisor}
-use Rattle.sl_ratio.specs.Quotient.{Quotient, Below}
+use Rattle.sl_base_quotients.specs.declared.method.Divisor.{Divisor}
+use Rattle.sl_base_quotients.specs.Quotient.{Quotient, Below}
 use Rattle.sl_law_margins.specs.Decimals.{value_of}
 use Rattle.sl_law_margins.specs.Divisors.{as_quotient, unit_places}
 

@@ -1,7 +1,7 @@
 -- Where a step of the machine leads, and how its steps end.
 use Rattle.std.specs.Prelude.{◌≡◌, ◌-◌, ℕ, suc, Option, Some, None, IsTrue, slice_get}
 use Rattle.std.specs.Option.{ForSome}
-use Rattle.sl_stages.specs.returns.Election.{Election}
+use Rattle.sl_law_meaning.specs.returns.Election.{Election}
 use Rattle.sl_code_instructions.specs.Codes.{CountingCode}
 use Rattle.sl_code_steps.specs.declared.step.End.{End}
 use Rattle.sl_code_steps.specs.inner.Ends.{ends_run}

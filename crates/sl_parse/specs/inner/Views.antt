@@ -1,7 +1,7 @@
 -- What the parser's own types stand for.
 use Rattle.sl_parse.specs.declared.expr.Division.{Division}
 use Rattle.sl_parse.specs.declared.head.Head.{Head}
-use Rattle.sl_stages.specs.book.Trees.{tree_of}
+use Rattle.sl_law_meaning.specs.book.Trees.{tree_of}
 use Rattle.sl_parse.specs.Grammar.{HeadTree}
 use Rattle.sl_parse.specs.inner.Reading.{DivisionTree}
 

@@ -2,11 +2,11 @@
 use Rattle.std.specs.Prelude.{◌≡◌, ℕ, Bool, true, ◌&&◌, Some, nat_eq, zero, suc, ◌+◌, ◌-◌, ◌*◌, ◌/◌, ◌<◌, ◌≤◌, ◌≢◌, false, List, [], ◌∷◌, ◌++◌, IsTrue, All, Contains, length, option_to_list, slice_get, slice_index_or}
 use Rattle.std.specs.List.{filter, list_all, list_any}
 use Rattle.std.specs.Ordering.{is_gt, is_le}
-use Rattle.sl_ratio.specs.declared.entry.Entry.{Entry}
-use Rattle.sl_ratio.specs.Entry.{entry_cmp}
-use Rattle.sl_ratio.specs.Quotient.{FitsRatio}
-use Rattle.sl_prio.specs.Prio.{has_quotient_of, peers}
-use Rattle.sl_prio.specs.Lot.{lot_cmp}
+use Rattle.sl_base_quotients.specs.declared.entry.Entry.{Entry}
+use Rattle.sl_base_quotients.specs.Entry.{entry_cmp}
+use Rattle.sl_base_quotients.specs.Quotient.{FitsRatio}
+use Rattle.sl_base_rankings.specs.Peers.{has_quotient_of, peers}
+use Rattle.sl_base_rankings.specs.Lot.{lot_cmp}
 use Rattle.sl_prio.specs.inner.Marks.{AreApart, HaveMarks, first_named}
 
 -- the entry at k is no greater than the one at p

@@ -1,8 +1,8 @@
 -- Indexes that have marks, or that a lot names.
 use Rattle.std.specs.Prelude.{◌≡◌, ◌+◌, ◌<◌, ◌≤◌, ℕ, All, Bool, true, cond, Contains, List, Option, length, nat_eq, slice_index_or}
 use Rattle.std.specs.List.{count_by, find, list_any}
-use Rattle.sl_ratio.specs.declared.entry.Entry.{Entry}
-use Rattle.sl_prio.specs.Lot.{place_in_lot}
+use Rattle.sl_base_quotients.specs.declared.entry.Entry.{Entry}
+use Rattle.sl_base_rankings.specs.Lot.{place_in_lot}
 
 -- whether a lot names an index
 abbrev pub names : List ℕ → ℕ → Bool

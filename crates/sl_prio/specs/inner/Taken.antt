@@ -1,9 +1,9 @@
 -- What a table holds while seats are awarded from it.
 use Rattle.std.specs.Prelude.{Bool, List, [], if◌then◌else◌}
 use Rattle.std.specs.Option.{option_map_or}
-use Rattle.sl_ratio.specs.declared.entry.Entry.{Entry}
-use Rattle.sl_prio.specs.Prio.{top}
-use Rattle.sl_prio.specs.Ranking.{without}
+use Rattle.sl_base_quotients.specs.declared.entry.Entry.{Entry}
+use Rattle.sl_base_rankings.specs.Peers.{top}
+use Rattle.sl_base_rankings.specs.Ranking.{without}
 
 -- the entries but for the greatest
 abbrev pub without_top : List Entry → List Entry

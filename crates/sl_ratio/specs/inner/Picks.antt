@@ -1,7 +1,7 @@
 -- What a search among quotients keeps: the one found so far, or the one that it meets.
 use Rattle.std.specs.Prelude.{Option, Some, None, if◌then◌else◌}
 use Rattle.std.specs.Ordering.{is_le, is_ge}
-use Rattle.sl_ratio.specs.Quotient.{Quotient, compare}
+use Rattle.sl_base_quotients.specs.Quotient.{Quotient, compare}
 
 -- the lesser of the two, and the one found where they are equal
 abbrev pub lesser : Option Quotient → Quotient → Quotient

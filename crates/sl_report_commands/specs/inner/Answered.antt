@@ -15,9 +15,9 @@ use Rattle.sl_report_commands.specs.declared.comparison.Compared.{Compared}
 use Rattle.sl_report_commands.specs.declared.comparison.Named.{Named}
 use Rattle.sl_report_forms.specs.Tables.{Table}
 use Rattle.sl_report_tables.specs.Totals.{AreTotals}
-use Rattle.sl_stages.specs.declared.book.Book.{Book}
-use Rattle.sl_stages.specs.declared.checked.CheckedBook.{CheckedBook}
-use Rattle.sl_stages.specs.returns.Election.{Election}
+use Rattle.sl_law_meaning.specs.declared.book.Book.{Book}
+use Rattle.sl_law_meaning.specs.declared.checked.CheckedBook.{CheckedBook}
+use Rattle.sl_law_meaning.specs.returns.Election.{Election}
 
 -- what a rulebook comes to, if one is given
 abbrev pub IsJudgedBook : Option BookInput → Option (Verdict CheckedBook RefusedBook) → Type 0

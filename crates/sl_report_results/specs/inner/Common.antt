@@ -1,8 +1,8 @@
 -- Claims as they are compared.
 use Rattle.std.specs.Prelude.{◌≡◌, ℕ, List, Option, MatchOption}
-use Rattle.sl_ratio.specs.Bounds.{IsLast, IsNext, last_quotient, next_quotient}
-use Rattle.sl_ratio.specs.Quotient.{Quotient, SameQuotient}
-use Rattle.sl_ratio.specs.declared.method.Divisor.{Divisor}
+use Rattle.sl_base_quotients.specs.Bounds.{IsLast, IsNext, last_quotient, next_quotient}
+use Rattle.sl_base_quotients.specs.Quotient.{Quotient, SameQuotient}
+use Rattle.sl_base_quotients.specs.declared.method.Divisor.{Divisor}
 
 -- the quotient of one of the entries of which P holds, or nothing where there is none
 abbrev pub IsClaim : (ℕ → Type 0) → (ℕ → Quotient) → Option Quotient → Type 0

@@ -3,10 +3,10 @@ use Rattle.std.specs.List.{list_any}
 use Rattle.std.specs.Prelude.{ℕ, List, [], ◌∷◌, ◌++◌, Option, None, nat_eq, option_and_then, position, if◌then◌else◌}
 use Rattle.std.specs.Str.{bytes_eq}
 use Rattle.sl_base_terms.specs.declared.shape.Shape.{Shape}
-use Rattle.sl_stages.specs.declared.fault.Item.{Item}
-use Rattle.sl_stages.specs.declared.returns.Lot.{Lot}
-use Rattle.sl_stages.specs.meaning.Lots.{given_entry}
-use Rattle.sl_stages.specs.meaning.Scopes.{same_item}
+use Rattle.sl_law_meaning.specs.declared.fault.Item.{Item}
+use Rattle.sl_law_meaning.specs.declared.election.Lot.{Lot}
+use Rattle.sl_law_meaning.specs.meaning.Lots.{given_entry}
+use Rattle.sl_law_meaning.specs.meaning.Scopes.{same_item}
 
 -- the number among items of the one that a lot gives, if it is a lot of the stage of that name
 abbrev pub drawn_by : List ℕ → Shape → List Item → Lot → Option ℕ

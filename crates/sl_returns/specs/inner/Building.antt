@@ -1,6 +1,6 @@
 -- What a builder has, and what it stands for.
 use Rattle.std.specs.Prelude.{◌≡◌, ◌≢◌, ◌⊎◌, ℕ, List, [], ◌∷◌, length, Option, Some, None}
-use Rattle.sl_stages.specs.returns.Election.{Election}
+use Rattle.sl_law_meaning.specs.returns.Election.{Election}
 use Rattle.sl_returns.specs.declared.fault.FaultKind.TheVariants as fault
 use Rattle.sl_returns.specs.declared.fault.ReturnsFault.{ReturnsFault}
 use Rattle.sl_returns.specs.declared.header.Version.{Version}

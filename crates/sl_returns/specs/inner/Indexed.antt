@@ -1,7 +1,7 @@
 -- What the index of the returns under way holds: just the names and the lots of the election so far.
-use Rattle.sl_ratio.specs.declared.limits.TheConstants.{MAX_LANDS, MAX_PARTIES}
-use Rattle.sl_stages.specs.declared.limits.TheConstants.{MAX_WINS}
-use Rattle.sl_stages.specs.returns.Election.{Election}
+use Rattle.sl_base_quotients.specs.declared.limits.TheConstants.{MAX_LANDS, MAX_PARTIES}
+use Rattle.sl_law_meaning.specs.declared.limits.TheConstants.{MAX_WINS}
+use Rattle.sl_law_meaning.specs.returns.Election.{Election}
 use Rattle.sl_returns.specs.declared.index.Index.{Index}
 
 abbrev pub index_of : Election → Index

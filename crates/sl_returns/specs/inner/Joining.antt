@@ -1,6 +1,6 @@
 -- The election with a record more, for a record whose tests hold.
 use Rattle.std.specs.Prelude.{◌≡◌, ◌≢◌, IfErr, Option, Result, Some, None}
-use Rattle.sl_stages.specs.returns.Election.{Election, with_house, with_land, with_party, with_list, with_win, with_lot}
+use Rattle.sl_law_meaning.specs.returns.Election.{Election, with_house, with_land, with_party, with_list, with_win, with_lot}
 use Rattle.sl_returns.specs.declared.schema.TheConstants.{KIND, LAND, PARTY, A}
 use Rattle.sl_returns.specs.declared.header.Version.{Version}
 use Rattle.sl_returns.specs.declared.schema.Kind.{Kind}

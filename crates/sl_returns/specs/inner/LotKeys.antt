@@ -8,7 +8,7 @@ use Rattle.std.specs.Str.{bytes_eq}
 use Rattle.std.proofs.Common.{refl, sym, ap, ◌∙◌}
 use Rattle.std.proofs.lemmas.Bool.{and_parts, eqb-true, false≢true}
 use Rattle.std.proofs.lemmas.Slice.Eq.{bytes_eq-Decides}
-use Rattle.sl_stages.specs.declared.returns.Lot.{Lot}
+use Rattle.sl_law_meaning.specs.declared.election.Lot.{Lot}
 use Rattle.sl_returns.specs.declared.told.LotKey.{LotKey}
 use Rattle.sl_returns.specs.Tests.{same_number, same_lot}
 

@@ -4,7 +4,7 @@ use Rattle.std.specs.Option.{unwrap_or}
 use Rattle.std.proofs.lemmas.Bool.{eqb-true}
 use Rattle.sl_stages.specs.declared.cell.TheConstants.{NONE}
 use Rattle.sl_stages.specs.declared.cell.Cell.TheInside.{Inside}
-use Rattle.sl_stages.specs.declared.returns.ListVotes.{ListVotes}
+use Rattle.sl_law_meaning.specs.declared.election.ListVotes.{ListVotes}
 
 -- the names left, if they are given
 abbrev slate_told : ℕ → Option ℕ

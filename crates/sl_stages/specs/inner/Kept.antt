@@ -1,7 +1,7 @@
 -- How a value of `Returns` keeps an election.
 use Rattle.std.specs.Prelude.{map}
 use Rattle.sl_stages.specs.declared.returns.Returns.TheInside.{Inside}
-use Rattle.sl_stages.specs.returns.Election.{Election}
+use Rattle.sl_law_meaning.specs.returns.Election.{Election}
 
 abbrev pub election_of : Inside → Election
 election_of r = record {

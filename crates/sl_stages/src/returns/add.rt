@@ -2,16 +2,15 @@
 
 ghost use Rattle.std.specs.Prelude.{◌≡◌, ◌<◌, ◌≤◌, ◌++◌, ◌∷◌, [], true, false, None, Some, length, map, replicate, slice_index_or, slice_set, vec_len, vec_capacity, IfOk, IsOk, OnOk, OnErr};
 ghost use Rattle.std.specs.Option.{ForSome};
-ghost use Rattle.sl_ratio.specs.Names.{name_fault, spelling_fault};
-ghost use Rattle.sl_ratio.specs.declared.limits.TheConstants.{MAX_SEATS, MAX_LANDS, MAX_PARTIES, MAX_VOTES};
-ghost use Rattle.sl_stages.specs.declared.limits.TheConstants.{MAX_SLATE, MAX_WINS, MAX_LOTS};
-ghost use Rattle.sl_stages.specs.returns.Votes.{IsListVotes};
+ghost use Rattle.sl_base_quotients.specs.Names.{name_fault, spelling_fault};
+ghost use Rattle.sl_base_quotients.specs.declared.limits.TheConstants.{MAX_SEATS, MAX_LANDS, MAX_PARTIES, MAX_VOTES};
+ghost use Rattle.sl_law_meaning.specs.declared.limits.TheConstants.{MAX_SLATE, MAX_WINS, MAX_LOTS};
+ghost use Rattle.sl_law_meaning.specs.returns.Votes.{IsListVotes};
 
 use crate::cell::Cell;
-use crate::label::Label;
-use crate::limits::{MAX_LANDS, MAX_PARTIES, MAX_WINS};
-use crate::returns::{ListVotes, Lot, Returns, Win};
-use sl_ratio::NoMemory;
+use crate::returns::Returns;
+use sl_base_quotients::NoMemory;
+use sl_law_meaning::{Label, ListVotes, Lot, MAX_LANDS, MAX_PARTIES, MAX_WINS, Win};
 use std::alloc::Global;
 
 // A row without a list.
@@ -55,7 +54,7 @@ fn write_cell(rows: &mut Vec<Vec<Cell>>, land: usize, party: usize, votes: ListV
 }
 
 impl Returns {
-    ghost use Rattle.sl_stages.specs.returns.Election.{Election, IsElection, IsWin, lands_of, parties_of, wins_of, list_at, has_list, with_house, with_land, with_party, with_list, with_win, with_slate, with_lot};
+    ghost use Rattle.sl_law_meaning.specs.returns.Election.{Election, IsElection, IsWin, lands_of, parties_of, wins_of, list_at, has_list, with_house, with_land, with_party, with_list, with_win, with_slate, with_lot};
 
     /// Sets the house, in seats. Takes no memory.
     pub fn set_house(&mut self, seats: u32)

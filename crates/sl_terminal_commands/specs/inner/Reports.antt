@@ -9,7 +9,7 @@ use Rattle.sl_count_inputs.specs.declared.input.Bytes.{Bytes}
 use Rattle.sl_count_inputs.specs.declared.status.Status.{Status}
 use Rattle.sl_report_commands.specs.Statuses.{IsReportStatus}
 use Rattle.sl_report_tables.specs.declared.answer.Answer.{Answer}
-use Rattle.sl_stages.specs.declared.count.Records.TheVariants.{Kept}
+use Rattle.sl_law_meaning.specs.declared.count.Records.TheVariants.{Kept}
 use Rattle.sl_terminal_commands.specs.Beside.{AreBeside}
 use Rattle.sl_terminal_commands.specs.Requests.{IsReportOf}
 use Rattle.sl_terminal_commands.specs.Said.{Said, nothing, report_said}

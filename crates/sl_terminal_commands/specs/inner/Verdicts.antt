@@ -9,11 +9,11 @@ use Rattle.sl_count_inputs.specs.declared.status.Status.TheVariants as status
 use Rattle.sl_count_inputs.specs.declared.status.Status.{Status}
 use Rattle.sl_count_inputs.specs.declared.verdict.Verdict.TheVariants.{Good, Refused}
 use Rattle.sl_count_inputs.specs.declared.verdict.Verdict.{Verdict}
-use Rattle.sl_ratio.specs.declared.method.Method.{Method}
+use Rattle.sl_base_quotients.specs.declared.method.Method.{Method}
 use Rattle.sl_report_commands.specs.Methods.{IsTreeVerdictBy}
-use Rattle.sl_stages.specs.book.Books.{book_of}
-use Rattle.sl_stages.specs.declared.checked.CheckedBook.{CheckedBook}
-use Rattle.sl_stages.specs.returns.Election.{Election}
+use Rattle.sl_law_meaning.specs.book.Books.{book_of}
+use Rattle.sl_law_meaning.specs.declared.checked.CheckedBook.{CheckedBook}
+use Rattle.sl_law_meaning.specs.returns.Election.{Election}
 use Rattle.sl_terminal_commands.specs.Beside.{AreNames}
 use Rattle.sl_terminal_commands.specs.Said.{Said, fault, nothing, warned}
 use Rattle.sl_terminal_commands.specs.Sums.{named_status}

@@ -1,8 +1,8 @@
 //! Priority tables beside lists, from which an entry is taken by going through all; and tables from which seats are awarded beside priority tables.
 
 use crate::numbers::dice::Dice;
+use sl_base_quotients::Entry;
 use sl_prio::{AwardTable, Prio};
-use sl_ratio::Entry;
 use std::alloc::Global;
 
 // Where a lot names an index, and its length if it does not.

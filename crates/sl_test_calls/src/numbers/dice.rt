@@ -1,7 +1,7 @@
 //! Numbers in no order, and entries and lots of them.
 
 use crate::numbers::quotients::entry;
-use sl_ratio::Entry;
+use sl_base_quotients::Entry;
 
 /// Numbers in no order, for entries with so many indexes, which stand `spread` apart.
 #[derive(Clone, Copy)]

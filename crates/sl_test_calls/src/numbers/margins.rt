@@ -2,12 +2,12 @@
 
 ghost use Rattle.std.specs.Prelude.{◌≡◌, slice_index};
 
+use sl_base_quotients::{Divisor, MAX_NUMERATOR, NoMemory};
 use sl_law_margins::{
     Decimal, MAX_PLACES, are_within, cut, divisor, is_allocation, is_allocation_with_minima,
     is_swing_within, last_seats, next_claims, swing, votes_missing, votes_missing_with_minima,
     votes_to_spare,
 };
-use sl_ratio::{Divisor, MAX_NUMERATOR, NoMemory};
 use std::alloc::Global;
 
 // The method by which seats are given here.

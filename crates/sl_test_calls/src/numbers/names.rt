@@ -1,6 +1,7 @@
 //! Names in a list.
 
-use sl_ratio::{NameFault, Names, spelling_fault};
+use sl_base_quotients::{NameFault, spelling_fault};
+use sl_ratio::Names;
 use std::alloc::Global;
 
 // Names that are added to a list for two, and their numbers or what is wrong with them.

@@ -1,8 +1,9 @@
 //! Quotients, the order of entries by them, and the bounds between them.
 
-use sl_ratio::{
-    DIVISORS, Divisor, Entry, MAX_DENOMINATOR, MAX_NUMERATOR, MAX_SEATS, MAX_WEIGHT, Ratio, bounds,
+use sl_base_quotients::{
+    DIVISORS, Divisor, Entry, MAX_DENOMINATOR, MAX_NUMERATOR, MAX_SEATS, MAX_WEIGHT, Ratio,
 };
+use sl_ratio::bounds;
 use std::cmp::Ordering;
 use std::hash::{DefaultHasher, Hash, Hasher};
 

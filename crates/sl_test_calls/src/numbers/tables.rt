@@ -1,8 +1,8 @@
 //! Priority tables, step by step.
 
 use crate::numbers::quotients::{Quotient, entry};
+use sl_base_quotients::Entry;
 use sl_prio::Prio;
-use sl_ratio::Entry;
 use std::alloc::{AllocError, Global};
 
 /// A quotient and an index.

@@ -3,9 +3,9 @@
 ghost use Rattle.std.specs.Prelude.{◌≡◌, ◌≤◌, IfOk, OnErr, vec_len};
 
 use crate::marks::{begin, end};
+use sl_base_quotients::{Divisor, Method, NoMemory};
 use sl_blocks::{Job, cover_block, grow_block, split_block};
 use sl_code::Instr;
-use sl_ratio::{Divisor, Method, NoMemory};
 use sl_stages::{Majority, Shape};
 use std::alloc::{AllocError, Global};
 

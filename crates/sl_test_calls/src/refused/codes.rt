@@ -3,8 +3,8 @@
 use crate::codes::compiled;
 use crate::marks::{begin, end};
 use crate::rows::{FIRST_BOOK, HALT, MIXED, MIXED_LISTING};
+use sl_base_quotients::NoMemory;
 use sl_code::{Code, CodeFault, from_bytes, listing, to_bytes};
-use sl_ratio::NoMemory;
 use std::alloc::Global;
 
 // The code of a file.

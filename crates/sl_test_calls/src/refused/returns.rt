@@ -1,11 +1,11 @@
 //! Records that are added to returns: where memory is refused the returns are as before.
 
 ghost use Rattle.std.specs.Prelude.{◌≡◌, ◌≤◌, ◌<◌, None, Some, false, IfOk, length};
-ghost use Rattle.sl_ratio.specs.Names.{name_fault};
-ghost use Rattle.sl_stages.specs.returns.Election.{no_election, lands_of, parties_of, wins_of, with_land, with_party, with_win};
+ghost use Rattle.sl_base_quotients.specs.Names.{name_fault};
+ghost use Rattle.sl_law_meaning.specs.returns.Election.{no_election, lands_of, parties_of, wins_of, with_land, with_party, with_win};
 
 use crate::marks::{begin, end};
-use sl_ratio::NoMemory;
+use sl_base_quotients::NoMemory;
 use sl_stages::{MAX_LANDS, MAX_LOTS, MAX_PARTIES, MAX_VOTES, MAX_WINS, Returns};
 use std::alloc::Global;
 

@@ -3,10 +3,10 @@
 use crate::codes::{checked, compiled, ending};
 use crate::marks::{begin, end};
 use crate::rows::{THREE_LISTS, THREE_METHODS};
+use sl_base_quotients::NoMemory;
 use sl_code_semantics::Verified;
 use sl_compile::compile;
 use sl_machine::{Ending, Memory, budget, run, run_unrecorded};
-use sl_ratio::NoMemory;
 use sl_returns::read_returns;
 use sl_stages::{CheckedBook, Returns};
 use std::alloc::Global;

@@ -3,8 +3,9 @@
 ghost use Rattle.std.specs.Prelude.{◌≤◌, ◌^◌};
 
 use crate::marks::{begin, end};
+use sl_base_quotients::{Entry, NameFault, Ratio};
 use sl_prio::Prio;
-use sl_ratio::{Entry, NameFault, Names, Ratio};
+use sl_ratio::Names;
 use std::alloc::Global;
 
 // Whether a name is added, which is new and has this number; where memory is refused, the names are as they were.

@@ -12,10 +12,10 @@ use crate::rows::{
     FIRST_BOOK, FIRST_RETURNS, FIVE_LAWS, THREE_LISTS, THREE_LISTS_TABLE, THREE_METHODS, TIED_BOOK,
     TIED_RETURNS,
 };
+use sl_base_quotients::NoMemory;
 use sl_code::Code;
 use sl_code_semantics::Verified;
 use sl_machine::{Ending, Memory};
-use sl_ratio::NoMemory;
 use sl_returns::read_returns;
 use sl_stages::{LegalFault, ListSeats, Returns, Table};
 use sl_table::{fault_text, into_table, short_text, stage_text, steps_text, table_of};

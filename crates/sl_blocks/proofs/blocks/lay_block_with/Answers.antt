@@ -1,5 +1,5 @@
 use Rattle.std.proofs.Common.{vec_len}
-use Rattle.sl_compile_plans.specs.inner.Layout.{tree_of}
+use Rattle.sl_compile_layout.specs.inner.Layout.{tree_of}
 use Rattle.sl_blocks.specs.inner.Given.{given_of}
 use Rattle.sl_blocks.proofs.Laid.{laid_as, rest_as, block_as_split, block_as_growth}
 use Rattle.sl_blocks.proofs.blocks.lay_block_with.Goals as goal

@@ -1,10 +1,10 @@
 use Rattle.std.proofs.Common.{◌+◌, ◌<◌, [], ◌∷◌, List, vec_len, sym, ap, subst, ◌∙◌, arith}
 use Rattle.std.specs.Prelude.{unwrap_or}
-use Rattle.sl_stages.specs.declared.book.Cond.TheVariants as condition
+use Rattle.sl_law_meaning.specs.declared.book.Cond.TheVariants as condition
 use Rattle.sl_code_instructions.specs.declared.code.TheConstants.{MAX_INSTRS}
 use Rattle.sl_code_instructions.specs.declared.instr.Instr.{Instr}
 use Rattle.sl_code_instructions.specs.declared.instr.Instr.TheVariants.{Zero}
-use Rattle.sl_compile_plans.specs.inner.Layout.{tree_of}
+use Rattle.sl_compile_layout.specs.inner.Layout.{tree_of}
 use Rattle.sl_compile_plans.specs.Trees.{Tree, Line, Then, size_of}
 use Rattle.sl_compile_pieces.specs.facts.Trees.{condition_tree, eligible_tree}
 use Rattle.sl_compile_pieces.specs.exprs.Slots.{fact_slots}

@@ -1,5 +1,5 @@
 use Rattle.std.proofs.Common.{vec_len, unwrap_or, ap}
-use Rattle.sl_compile_plans.specs.inner.Layout.{tree_of}
+use Rattle.sl_compile_layout.specs.inner.Layout.{tree_of}
 use Rattle.sl_blocks.specs.inner.Given.{given_of}
 use Rattle.sl_blocks.specs.inner.LayoutParts.{all_with}
 use Rattle.sl_blocks.proofs.Laid.{laid_as, found_as}

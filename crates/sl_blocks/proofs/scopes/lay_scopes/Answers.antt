@@ -1,7 +1,7 @@
 use Rattle.std.proofs.Common.{List, [], ◌∷◌, vec_len, ap, ◌∙◌}
 use Rattle.sl_code_instructions.specs.declared.instr.Instr.{Instr}
-use Rattle.sl_compile_plans.specs.declared.plan.Part.TheVariants as part
-use Rattle.sl_compile_plans.specs.inner.Layout.{filled, tree_of}
+use Rattle.sl_compile_layout.specs.declared.plan.Part.TheVariants as part
+use Rattle.sl_compile_layout.specs.inner.Layout.{filled, tree_of}
 use Rattle.sl_compile_plans.specs.Trees.{Tree, Line, Then}
 use Rattle.sl_blocks.specs.inner.Given.{given_of}
 use Rattle.sl_blocks.specs.inner.LayoutParts.{all_with}

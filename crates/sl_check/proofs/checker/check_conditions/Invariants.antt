@@ -1,7 +1,7 @@
 -- The conditions so far pass: the first that fails is one of the rest.
 use Rattle.std.proofs.Common.{◌≡◌, drop}
 use Rattle.sl_base_terms.specs.Tests.{first_failing}
-use Rattle.sl_stages.specs.book.Typing.{condition_tests}
+use Rattle.sl_law_meaning.specs.book.Typing.{condition_tests}
 use Rattle.sl_check.proofs.checker.check_conditions.Given as goal
 
 abbrev pub invariant-loop-condition : goal.invariant-loop-condition

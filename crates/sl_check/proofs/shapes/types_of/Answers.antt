@@ -1,6 +1,6 @@
 use Rattle.std.proofs.Common.{◌≤◌, ◌∙◌, add-one, ap, arith, length}
-use Rattle.sl_stages.specs.book.Trees.{tree_of}
-use Rattle.sl_stages.specs.book.Typing.{type_of}
+use Rattle.sl_law_meaning.specs.book.Trees.{tree_of}
+use Rattle.sl_law_meaning.specs.book.Typing.{type_of}
 use Rattle.sl_check.proofs.Walking.{columns_more}
 use Rattle.sl_check.proofs.shapes.types_of.Goals as goal
 

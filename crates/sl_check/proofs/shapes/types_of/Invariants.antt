@@ -1,7 +1,7 @@
 -- The types before this place are those of the stages' columns.
 use Rattle.std.proofs.Common.{◌≡◌, [], map, take, drop}
-use Rattle.sl_stages.specs.book.Trees.{stage_of}
-use Rattle.sl_stages.specs.book.Typing.{columns_of}
+use Rattle.sl_law_meaning.specs.book.Trees.{stage_of}
+use Rattle.sl_law_meaning.specs.book.Typing.{columns_of}
 use Rattle.sl_check.specs.inner.Known.{columns}
 use Rattle.sl_check.proofs.shapes.types_of.Given as goal
 

@@ -1,7 +1,7 @@
 use Rattle.std.proofs.Common.{◌≡◌, ◌≤◌, Some, [], map, length, arith, rules, add-one}
-use Rattle.sl_stages.specs.book.Trees.{stage_of}
+use Rattle.sl_law_meaning.specs.book.Trees.{stage_of}
 use Rattle.sl_base_terms.specs.Tests.{first_failing}
-use Rattle.sl_stages.specs.book.Typing.{stages_tests}
+use Rattle.sl_law_meaning.specs.book.Typing.{stages_tests}
 use Rattle.sl_check.proofs.Within.{parts_within, stages_within}
 use Rattle.sl_check.proofs.Walking.{stage_fails, stage_passes}
 use Rattle.sl_check.proofs.stages.stage_types.Goals as goal

@@ -1,8 +1,8 @@
 use Rattle.std.proofs.Common.{◌≡◌, ◌∙◌, List, map, sym, ap, arith}
 use Rattle.std.proofs.lemmas.List.{length-take-le}
-use Rattle.sl_stages.specs.declared.book.Stage.{Stage}
-use Rattle.sl_stages.specs.book.Books.{book_of}
-use Rattle.sl_stages.specs.book.Trees.{stage_of}
+use Rattle.sl_law_meaning.specs.declared.book.Stage.{Stage}
+use Rattle.sl_law_meaning.specs.book.Books.{book_of}
+use Rattle.sl_law_meaning.specs.book.Trees.{stage_of}
 use Rattle.sl_blocks.specs.inner.Few.{few_of}
 use Rattle.sl_compile.specs.Codes.{code_stages, book_code}
 use Rattle.sl_compile.specs.Laws.{CanCompile}

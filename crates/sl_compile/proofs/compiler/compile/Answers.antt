@@ -1,5 +1,5 @@
 use Rattle.std.proofs.Common.{rules}
-use Rattle.sl_stages.specs.book.Books.{book_of}
+use Rattle.sl_law_meaning.specs.book.Books.{book_of}
 use Rattle.sl_compile.proofs.Books.{code_compiled, code_kinded}
 use Rattle.sl_compile.proofs.compiler.compile.Goals as goal
 

@@ -1,5 +1,5 @@
 use Rattle.std.proofs.Common.{arith}
-use Rattle.sl_stages.specs.book.Books.{book_of}
+use Rattle.sl_law_meaning.specs.book.Books.{book_of}
 use Rattle.sl_blocks.specs.inner.Few.{few_of}
 use Rattle.sl_compile.proofs.Walks.{few_stages}
 use Rattle.sl_compile.proofs.Wholes.{passes}

@@ -1,6 +1,6 @@
 -- The stages so far are named, by words.
 use Rattle.std.proofs.Common.{◌≡◌, ◌++◌, All, map, drop}
-use Rattle.sl_stages.specs.book.Trees.{stage_of}
+use Rattle.sl_law_meaning.specs.book.Trees.{stage_of}
 use Rattle.sl_code_instructions.specs.Proper.{IsStage}
 use Rattle.sl_compile.specs.Codes.{code_stages}
 use Rattle.sl_compile.proofs.naming.code_stages.Given as goal

@@ -1,6 +1,6 @@
 use Rattle.std.proofs.Common.{sym, ap, ◌++◌, append_assoc}
 use Rattle.std.proofs.lemmas.List.{map_more}
-use Rattle.sl_stages.specs.declared.book.ColumnType.{ColumnType}
+use Rattle.sl_law_meaning.specs.declared.book.ColumnType.{ColumnType}
 use Rattle.sl_compile.proofs.slots.add_columns.Goals as goal
 
 pub loop-column-preserved : goal.loop-column-preserved

@@ -2,9 +2,9 @@ use Rattle.std.proofs.Common.{◌≡◌, suc, ◌+◌, ◌-◌, ◌∷◌, ◌++
 use Rattle.std.proofs.lemmas.List.{map_more, take_all, append-nil}
 use Rattle.std.specs.List.{range_with_len}
 use Rattle.sl_base_terms.specs.declared.shape.Shape.TheVariants as shape
-use Rattle.sl_stages.specs.declared.fact.Fact.{Fact}
-use Rattle.sl_stages.specs.declared.fact.TheConstants.{FACTS}
-use Rattle.sl_stages.specs.book.Typing.{fact_type}
+use Rattle.sl_law_meaning.specs.declared.fact.Fact.{Fact}
+use Rattle.sl_law_meaning.specs.declared.fact.TheConstants.{FACTS}
+use Rattle.sl_law_meaning.specs.book.Typing.{fact_type}
 use Rattle.sl_compile_pieces.specs.declared.slots.TheConstants.{LEVELS}
 use Rattle.sl_compile.specs.Codes.{level_shapes}
 use Rattle.sl_compile.proofs.slots.low_slots.Goals as goal

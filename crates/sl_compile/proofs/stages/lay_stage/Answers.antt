@@ -1,4 +1,4 @@
-use Rattle.sl_stages.specs.book.Trees.{stage_of}
+use Rattle.sl_law_meaning.specs.book.Trees.{stage_of}
 use Rattle.sl_compile.specs.inner.Earlier.{columns}
 use Rattle.sl_compile.proofs.Walks.{expr_room, copy_room, stage_blocks}
 use Rattle.sl_compile.proofs.stages.lay_stage.Goals as goal

@@ -2,9 +2,9 @@
 -- (docs/blocks.md, section 2).
 use Rattle.std.specs.Prelude.{◌≡◌, ℕ, ◌+◌, ◌-◌, ◌<◌, ◌≤◌, true, false, List, [], ◌∷◌, Some, nat_eq, sum}
 use Rattle.std.specs.List.{list_any}
-use Rattle.sl_stages.specs.returns.Election.{Election}
-use Rattle.sl_stages.specs.methods.Ties.{Lists, Decided, Tied, IsChoice}
-use Rattle.sl_stages.specs.laws.Ladders.{IsPeer, IsSettled, IsTop, HasRoom}
+use Rattle.sl_law_meaning.specs.returns.Election.{Election}
+use Rattle.sl_law_meaning.specs.methods.Ties.{Lists, Decided, Tied, IsChoice}
+use Rattle.sl_law_meaning.specs.laws.Ladders.{IsPeer, IsSettled, IsTop, HasRoom}
 use Rattle.sl_code_instructions.specs.Codes.{CountingCode}
 use Rattle.sl_code_semantics.specs.State.{State, End}
 use Rattle.sl_code_semantics.specs.Drawn.{lot_of}

@@ -1,10 +1,10 @@
 -- What the plan of batches achieves: it walks from settled vector to settled vector of an arena, a seat a turn (docs/blocks.md, section 2).
 use Rattle.std.specs.Prelude.{◌≡◌, ◌⊎◌, ℕ, ◌+◌, ◌<◌, ◌≤◌, true, false, List, [], ◌∷◌, length, nat_eq, sum, slice_index, Contains}
 use Rattle.std.specs.List.{list_any}
-use Rattle.sl_stages.specs.returns.Election.{Election}
-use Rattle.sl_stages.specs.methods.Ties.{Lists}
-use Rattle.sl_stages.specs.laws.Ladders.{Has, IsPeer, IsSettled, RaisesEach}
-use Rattle.sl_stages.specs.laws.Walks.{MidBatch}
+use Rattle.sl_law_meaning.specs.returns.Election.{Election}
+use Rattle.sl_law_meaning.specs.methods.Ties.{Lists}
+use Rattle.sl_law_meaning.specs.laws.Ladders.{Has, IsPeer, IsSettled, RaisesEach}
+use Rattle.sl_law_meaning.specs.laws.Walks.{MidBatch}
 use Rattle.sl_code_instructions.specs.Codes.{CountingCode}
 use Rattle.sl_code_semantics.specs.State.{State, with_register}
 use Rattle.sl_compile_plans.specs.declared.plan.Bound.{Bound}

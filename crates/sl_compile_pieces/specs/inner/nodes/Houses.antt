@@ -1,12 +1,12 @@
 -- What the search for the house of a growth achieves (docs/blocks.md, section 4).
 use Rattle.std.specs.Prelude.{◌≡◌, ◌≢◌, ℕ, List, Some, sum, slice_get}
-use Rattle.sl_ratio.specs.declared.method.Divisor.{Divisor}
-use Rattle.sl_stages.specs.declared.fault.Item.{Item}
-use Rattle.sl_stages.specs.declared.fault.FaultKind.TheVariants as fault
-use Rattle.sl_stages.specs.returns.Election.{Election}
-use Rattle.sl_stages.specs.methods.LeastHouse.{GrownTo, AboveCap, IsGrowth}
-use Rattle.sl_stages.specs.meaning.Scopes.{Group, place}
-use Rattle.sl_stages.specs.meaning.Results.{fault_at}
+use Rattle.sl_base_quotients.specs.declared.method.Divisor.{Divisor}
+use Rattle.sl_law_meaning.specs.declared.fault.Item.{Item}
+use Rattle.sl_law_meaning.specs.declared.fault.FaultKind.TheVariants as fault
+use Rattle.sl_law_meaning.specs.returns.Election.{Election}
+use Rattle.sl_law_meaning.specs.methods.LeastHouse.{GrownTo, AboveCap, IsGrowth}
+use Rattle.sl_law_meaning.specs.meaning.Scopes.{Group, place}
+use Rattle.sl_law_meaning.specs.meaning.Results.{fault_at}
 use Rattle.sl_code_semantics.specs.State.{State, End, Faulted}
 use Rattle.sl_compile_pieces.specs.scopes.Forms.{OnScope}
 use Rattle.sl_compile_pieces.specs.declared.registers.TheConstants as reg

@@ -2,14 +2,14 @@
 -- (docs/blocks.md, section 3).
 use Rattle.std.specs.Prelude.{◌≡◌, ◌≢◌, ℕ, List, ◌++◌, Some, map, flat_map, sum, slice_get, slice_index, IsPermutation}
 use Rattle.std.specs.List.{range_with_len, enumerate_from}
-use Rattle.sl_stages.specs.declared.fault.Item.{Item}
-use Rattle.sl_stages.specs.declared.table.Mark.{Mark}
-use Rattle.sl_stages.specs.declared.table.SeatStep.{SeatStep}
-use Rattle.sl_stages.specs.declared.table.Weight.{Weight}
-use Rattle.sl_stages.specs.returns.Election.{Election}
-use Rattle.sl_stages.specs.meaning.Scopes.{Group, place}
-use Rattle.sl_stages.specs.meaning.Records.{seat_step}
-use Rattle.sl_stages.specs.laws.Ladders.{Ladders, IsTop}
+use Rattle.sl_law_meaning.specs.declared.fault.Item.{Item}
+use Rattle.sl_law_meaning.specs.declared.table.Mark.{Mark}
+use Rattle.sl_law_meaning.specs.declared.table.SeatStep.{SeatStep}
+use Rattle.sl_law_meaning.specs.declared.table.Weight.{Weight}
+use Rattle.sl_law_meaning.specs.returns.Election.{Election}
+use Rattle.sl_law_meaning.specs.meaning.Scopes.{Group, place}
+use Rattle.sl_law_meaning.specs.meaning.Records.{seat_step}
+use Rattle.sl_law_meaning.specs.laws.Ladders.{Ladders, IsTop}
 use Rattle.sl_code_semantics.specs.State.{State}
 use Rattle.sl_compile_pieces.specs.scopes.Forms.{OnScope}
 use Rattle.sl_compile_pieces.specs.arenas.Arenas.{Arena}

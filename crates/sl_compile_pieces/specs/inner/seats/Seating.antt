@@ -1,16 +1,16 @@
 -- What the plan achieves that is run for each seat awarded: the entry's cell, its record, and its next seat in the table
 -- (docs/blocks.md, section 3).
 use Rattle.std.specs.Prelude.{◌≡◌, ℕ, List}
-use Rattle.sl_ratio.specs.declared.limits.TheConstants.{MAX_SEATS}
-use Rattle.sl_ratio.specs.declared.method.Method.{Method}
-use Rattle.sl_stages.specs.declared.fault.FaultKind.TheVariants as fault
-use Rattle.sl_stages.specs.declared.table.Weight.{Weight}
-use Rattle.sl_stages.specs.returns.Election.{Election}
-use Rattle.sl_stages.specs.methods.Ties.{Tied, IsChoice}
-use Rattle.sl_stages.specs.meaning.Scopes.{Group}
-use Rattle.sl_stages.specs.meaning.Splits.{entries_at}
-use Rattle.sl_stages.specs.meaning.Results.{fault_at}
-use Rattle.sl_stages.specs.laws.Ladders.{IsTop}
+use Rattle.sl_base_quotients.specs.declared.limits.TheConstants.{MAX_SEATS}
+use Rattle.sl_base_quotients.specs.declared.method.Method.{Method}
+use Rattle.sl_law_meaning.specs.declared.fault.FaultKind.TheVariants as fault
+use Rattle.sl_law_meaning.specs.declared.table.Weight.{Weight}
+use Rattle.sl_law_meaning.specs.returns.Election.{Election}
+use Rattle.sl_law_meaning.specs.methods.Ties.{Tied, IsChoice}
+use Rattle.sl_law_meaning.specs.meaning.Scopes.{Group}
+use Rattle.sl_law_meaning.specs.meaning.Splits.{entries_at}
+use Rattle.sl_law_meaning.specs.meaning.Results.{fault_at}
+use Rattle.sl_law_meaning.specs.laws.Ladders.{IsTop}
 use Rattle.sl_code_instructions.specs.Codes.{CountingCode}
 use Rattle.sl_code_semantics.specs.State.{State, End, Faulted}
 use Rattle.sl_compile_pieces.specs.arenas.Arenas.{Arena}

@@ -1,13 +1,13 @@
 -- What the plans of sums and of the majority clause achieve (docs/blocks.md, section 3).
 use Rattle.std.specs.Prelude.{◌≡◌, ℕ, true, false, List, Some, None, min, sum}
-use Rattle.sl_stages.specs.declared.book.Majority.{Majority}
-use Rattle.sl_stages.specs.declared.fault.FaultKind.{FaultKind}
-use Rattle.sl_stages.specs.declared.fault.FaultKind.TheVariants as fault
-use Rattle.sl_stages.specs.declared.table.Weight.{Weight}
-use Rattle.sl_stages.specs.returns.Election.{Election}
-use Rattle.sl_stages.specs.meaning.Scopes.{Group}
-use Rattle.sl_stages.specs.meaning.Splits.{refusal, is_refused}
-use Rattle.sl_stages.specs.meaning.Results.{fault_at}
+use Rattle.sl_law_meaning.specs.declared.book.Majority.{Majority}
+use Rattle.sl_law_meaning.specs.declared.fault.FaultKind.{FaultKind}
+use Rattle.sl_law_meaning.specs.declared.fault.FaultKind.TheVariants as fault
+use Rattle.sl_law_meaning.specs.declared.table.Weight.{Weight}
+use Rattle.sl_law_meaning.specs.returns.Election.{Election}
+use Rattle.sl_law_meaning.specs.meaning.Scopes.{Group}
+use Rattle.sl_law_meaning.specs.meaning.Splits.{refusal, is_refused}
+use Rattle.sl_law_meaning.specs.meaning.Results.{fault_at}
 use Rattle.sl_code_semantics.specs.State.{State, End, Faulted}
 use Rattle.sl_code_semantics.specs.Effects.{most}
 use Rattle.sl_compile_pieces.specs.scopes.Forms.{OnScope}

@@ -1,7 +1,7 @@
 use Rattle.sl_count_calls.proofs.StageColumns.{has_slots}
 use Rattle.sl_count_calls.proofs.Ends.{end_is_meant, outcome_fits}
 use Rattle.sl_count_calls.proofs.outcome.outcome_of.Goals as goal
-use Rattle.sl_stages.specs.book.Books.{book_of}
+use Rattle.sl_law_meaning.specs.book.Books.{book_of}
 
 pub end_of-requires-clause-slots : goal.end_of-requires-clause-slots
 end_of-requires-clause-slots c = rw c.code-2.ensures.code (has_slots (book_of c.args.book.now.book) c.in_ok-code.code c.in_ok-code.ensures)

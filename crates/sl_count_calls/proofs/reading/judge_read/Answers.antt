@@ -2,7 +2,7 @@ use Rattle.std.proofs.Common.{option_map, sym}
 use Rattle.sl_count_calls.proofs.Order.{judged_known, reads_after_good}
 use Rattle.sl_count_calls.proofs.reading.judge_read.Goals as goal
 use Rattle.sl_count_inputs.specs.Reading.{book_input}
-use Rattle.sl_stages.specs.book.Books.{book_of}
+use Rattle.sl_law_meaning.specs.book.Books.{book_of}
 
 pub returns-in-None-clause-judged : goal.returns-in-None-clause-judged
 returns-in-None-clause-judged g c =

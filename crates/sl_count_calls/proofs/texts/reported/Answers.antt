@@ -3,7 +3,7 @@ use Rattle.sl_count_calls.proofs.CountTexts.{table_is}
 use Rattle.sl_count_calls.proofs.texts.reported.Goals as goal
 use Rattle.sl_count_calls.specs.Counting.{IsTableText}
 use Rattle.sl_count_calls.specs.Reports.{IsReported}
-use Rattle.sl_stages.specs.book.Books.{book_of}
+use Rattle.sl_law_meaning.specs.book.Books.{book_of}
 
 pub returns-in_ok-text-in-Counted : goal.returns-in_ok-text-in-Counted
 returns-in_ok-text-in-Counted c =

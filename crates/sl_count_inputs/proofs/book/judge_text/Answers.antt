@@ -1,6 +1,6 @@
 use Rattle.std.proofs.Common.{◌≡◌, None, refl, rules}
-use Rattle.sl_stages.specs.book.Books.{book_of}
-use Rattle.sl_stages.specs.book.Typing.{check_fault}
+use Rattle.sl_law_meaning.specs.book.Books.{book_of}
+use Rattle.sl_law_meaning.specs.book.Typing.{check_fault}
 use Rattle.sl_count_inputs.proofs.BookFacts.{has_tree}
 use Rattle.sl_count_inputs.proofs.book.judge_text.Goals as goal
 

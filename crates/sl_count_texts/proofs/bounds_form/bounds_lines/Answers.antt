@@ -3,7 +3,7 @@ use Rattle.std.specs.List.{All, count_by}
 use Rattle.std.proofs.lemmas.List.{get_or-map}
 use Rattle.std.proofs.lemmas.List.Elements.{All-get_or}
 use Rattle.sl_code_semantics.specs.Fits.{FitsWeight}
-use Rattle.sl_stages.specs.declared.table.Weight.{Weight}
+use Rattle.sl_law_meaning.specs.declared.table.Weight.{Weight}
 use Rattle.sl_count_texts.specs.Bounds.{is_one_scope, groups, scope_weights, is_of_entry, seats_of, AreBoundsLines}
 use Rattle.sl_count_texts.specs.Orders.{weight_key, in_order}
 use Rattle.sl_count_texts.specs.inner.Counts.{counted_seats}

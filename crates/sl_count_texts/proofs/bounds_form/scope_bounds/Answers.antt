@@ -1,7 +1,7 @@
 use Rattle.std.proofs.Common.{◌<◌, ◌≤◌, map, sum, option_map, inl, sym, subst, ◌∙◌}
 use Rattle.std.proofs.lemmas.List.{length-map}
-use Rattle.sl_ratio.specs.declared.limits.TheConstants.{MAX_SEATS}
-use Rattle.sl_ratio.specs.Bounds.{AreBounds}
+use Rattle.sl_base_quotients.specs.declared.limits.TheConstants.{MAX_SEATS}
+use Rattle.sl_base_quotients.specs.Bounds.{AreBounds}
 use Rattle.sl_count_texts.specs.inner.Counts.{counted_seats, IsWithin}
 use Rattle.sl_count_texts.proofs.BoundsWeights.{positive_weights, limited_weights}
 use Rattle.sl_count_texts.proofs.bounds_form.scope_bounds.Goals as goal

@@ -1,4 +1,4 @@
-use Rattle.sl_ratio.specs.declared.limits.TheConstants.{MAX_SEATS}
+use Rattle.sl_base_quotients.specs.declared.limits.TheConstants.{MAX_SEATS}
 use Rattle.sl_count_texts.specs.inner.Counts.{counted_seats}
 use Rattle.sl_count_texts.proofs.EntrySeats.{one_past, numbers_more, small_more}
 use Rattle.sl_count_texts.proofs.bounds_form.seats_within.Goals as goal

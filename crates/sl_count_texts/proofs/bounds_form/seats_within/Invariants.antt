@@ -1,6 +1,6 @@
 use Rattle.std.proofs.Common.{◌≡◌, ◌≤◌, map, take}
 use Rattle.std.specs.List.{All}
-use Rattle.sl_ratio.specs.declared.limits.TheConstants.{MAX_SEATS}
+use Rattle.sl_base_quotients.specs.declared.limits.TheConstants.{MAX_SEATS}
 use Rattle.sl_count_texts.specs.inner.Counts.{counted_seats}
 use Rattle.sl_count_texts.proofs.bounds_form.seats_within.Given as goal
 

@@ -1,7 +1,7 @@
 use Rattle.std.proofs.Common.{◌≤◌, cond, length, map, count_by, sym, ap, ◌∙◌, arith}
 use Rattle.std.specs.List.{zip, range_with_len}
 use Rattle.std.proofs.lemmas.Slice.Zip.{length-zip}
-use Rattle.sl_stages.specs.returns.Election.{parties_of}
+use Rattle.sl_law_meaning.specs.returns.Election.{parties_of}
 use Rattle.sl_count_texts.proofs.Counting.{sums_none, counts_all}
 use Rattle.sl_count_texts.proofs.PartyWinners.{counts_for, party_within, of_counted, count_within, party_more, party_same}
 use Rattle.sl_count_texts.proofs.party_counts.winners.Goals as goal

@@ -2,8 +2,8 @@ use Rattle.std.proofs.Common.{◌≡◌, ◌<◌, ◌∷◌, [], ◌+◌, length
 use Rattle.std.specs.Fmt.{decimal}
 use Rattle.std.proofs.lemmas.List.FromFn.{length-range_with_len, get_or-range_with_len}
 use Rattle.std.proofs.lemmas.Option.{get_or_from_slice_get}
-use Rattle.sl_stages.specs.returns.Election.{parties_of}
-use Rattle.sl_stages.specs.returns.Facts.{parties}
+use Rattle.sl_law_meaning.specs.returns.Election.{parties_of}
+use Rattle.sl_law_meaning.specs.returns.Facts.{parties}
 use Rattle.sl_count_texts.specs.Lines.{line, with_lines}
 use Rattle.sl_count_texts.specs.Short.{is_list_of, party_line, party_word, seats_of, seated_of, singles_of}
 use Rattle.sl_count_texts.specs.inner.PartyCounts.{list_seats_of}

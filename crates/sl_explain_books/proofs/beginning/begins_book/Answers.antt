@@ -1,6 +1,6 @@
 use Rattle.std.proofs.Common.{◌≡◌, ◌∙◌, map, refl, inl, subst, eq-eqb, eqb-true}
 use Rattle.sl_parse.specs.declared.fault.Cause.TheVariants.{Expected, TooDeep, TooManyStages, After}
-use Rattle.sl_stages.specs.book.Books.{book_of}
+use Rattle.sl_law_meaning.specs.book.Books.{book_of}
 use Rattle.sl_explain_books.specs.Beginnings.{examples, example_of, AreBeginning, IsBeginning}
 use Rattle.sl_parse.specs.Parsing.{FaultIsAt}
 use Rattle.sl_explain_books.proofs.Beginnings.{stand_in, ends_early, no_other}

@@ -1,7 +1,7 @@
 -- What is left keeps the limits.
 use Rattle.std.proofs.Common.{map}
-use Rattle.sl_stages.specs.book.Books.{book_of}
-use Rattle.sl_stages.specs.book.Trees.{stage_of}
+use Rattle.sl_law_meaning.specs.book.Books.{book_of}
+use Rattle.sl_law_meaning.specs.book.Trees.{stage_of}
 use Rattle.sl_explain_books.proofs.LeftOut.{small_left, within_left}
 use Rattle.sl_explain_books.proofs.left_out.without.Goals as goal
 

@@ -1,5 +1,5 @@
 -- those of the entries so far that won the last seat
-use Rattle.sl_ratio.specs.Bounds.{IsLast}
+use Rattle.sl_base_quotients.specs.Bounds.{IsLast}
 use Rattle.sl_law_margins.proofs.Claimants.{ListsBelow}
 use Rattle.sl_law_margins.proofs.claims.last_seats.Given as goal
 

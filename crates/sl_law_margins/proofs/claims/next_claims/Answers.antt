@@ -1,7 +1,7 @@
 use Rattle.std.proofs.Common.{◌≡◌, ℕ, ◌+◌, [], ◌∷◌, ◌++◌, sym, ap, subst, arith, ◌∙◌, Vec, Global}
 use Rattle.std.proofs.lemmas.Bool.{true≢false}
-use Rattle.sl_ratio.specs.Bounds.{IsNext}
-use Rattle.sl_stages.proofs.methods.DivisorProofs.{in_range}
+use Rattle.sl_base_quotients.specs.Bounds.{IsNext}
+use Rattle.sl_law_meaning.proofs.methods.DivisorProofs.{in_range}
 use Rattle.sl_law_margins.proofs.Claimants.{ListsBelow, listed_more, listed_skipped, all_listed, next_iff}
 use Rattle.sl_law_margins.proofs.claims.next_claims.Goals as goal
 use Rattle.sl_law_margins.proofs.claims.next_claims.Goals.{then-is_next+in_ok-push, else-is_next}

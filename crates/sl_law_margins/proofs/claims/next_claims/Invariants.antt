@@ -1,5 +1,5 @@
 -- those of the entries so far that have the next claim
-use Rattle.sl_ratio.specs.Bounds.{IsNext}
+use Rattle.sl_base_quotients.specs.Bounds.{IsNext}
 use Rattle.sl_law_margins.proofs.Claimants.{ListsBelow}
 use Rattle.sl_law_margins.proofs.claims.next_claims.Given as goal
 

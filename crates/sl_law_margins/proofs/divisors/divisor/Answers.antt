@@ -1,6 +1,6 @@
 use Rattle.std.proofs.Common.{ℕ, sym, subst, arith}
-use Rattle.sl_ratio.specs.Quotient.{SameQuotient}
-use Rattle.sl_stages.proofs.methods.DivisorProofs.{empty_fields}
+use Rattle.sl_base_quotients.specs.Quotient.{SameQuotient}
+use Rattle.sl_law_meaning.proofs.methods.DivisorProofs.{empty_fields}
 use Rattle.sl_law_margins.specs.Decimals.{value_of}
 use Rattle.sl_law_margins.specs.Divisors.{IsShortDivisor}
 use Rattle.sl_law_margins.specs.inner.Units.{units}

@@ -1,5 +1,5 @@
 use Rattle.std.proofs.Common.{◌<◌, Option, Some, sym, subst, arith}
-use Rattle.sl_ratio.specs.Quotient.{Quotient}
+use Rattle.sl_base_quotients.specs.Quotient.{Quotient}
 use Rattle.sl_law_margins.specs.inner.Units.{IsHighest}
 use Rattle.sl_law_margins.proofs.Overtaking.{finite_by}
 use Rattle.sl_law_margins.proofs.Units.{highest_is, parts_below_small}

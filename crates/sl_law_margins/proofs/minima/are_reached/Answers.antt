@@ -1,9 +1,9 @@
 use Rattle.std.proofs.Common.{◌<◌, ℕ, get_or, arith, refl, sym, subst}
-use Rattle.sl_ratio.specs.Quotient.{Quotient, AtMost}
-use Rattle.sl_ratio.specs.Bounds.{HasWeight, last_quotient, next_quotient}
-use Rattle.sl_ratio.specs.inner.QuotientLaws.{quotient_positive}
-use Rattle.sl_ratio.proofs.Order.{AtMost-trans}
-use Rattle.sl_stages.proofs.methods.DivisorProofs.{in_range}
+use Rattle.sl_base_quotients.specs.Quotient.{Quotient, AtMost}
+use Rattle.sl_base_quotients.specs.Bounds.{HasWeight, last_quotient, next_quotient}
+use Rattle.sl_base_quotients.specs.inner.QuotientLaws.{quotient_positive}
+use Rattle.sl_base_quotients.proofs.Order.{AtMost-trans}
+use Rattle.sl_law_meaning.proofs.methods.DivisorProofs.{in_range}
 use Rattle.sl_law_margins.proofs.Missing.{below_next}
 use Rattle.sl_law_margins.proofs.minima.are_reached.Goals as goal
 

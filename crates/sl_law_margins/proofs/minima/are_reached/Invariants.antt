@@ -1,7 +1,7 @@
 -- each of the entries so far reaches the greatest next claim by its last seat beyond its minimum
 use Rattle.std.proofs.Common.{◌<◌, ℕ, get_or}
-use Rattle.sl_ratio.specs.Quotient.{AtMost}
-use Rattle.sl_ratio.specs.Bounds.{HasWeight, last_quotient}
+use Rattle.sl_base_quotients.specs.Quotient.{AtMost}
+use Rattle.sl_base_quotients.specs.Bounds.{HasWeight, last_quotient}
 use Rattle.sl_law_margins.proofs.minima.are_reached.Given as goal
 
 abbrev pub invariant-loop-entry : goal.invariant-loop-entry

@@ -1,7 +1,7 @@
 use Rattle.std.proofs.Common.{◌≡◌, ℕ, ◌+◌, ◌<◌, true, false, nat_eq, [], ◌∷◌, ◌++◌, length, inl, inr, arith, refl, sym, subst, ◌∙◌}
 use Rattle.std.specs.Prelude.{slice_index}
 use Rattle.std.proofs.lemmas.Bool.{cases_lt, eqb-true, true≢false}
-use Rattle.sl_ratio.specs.Quotient.{Quotient, quotient}
+use Rattle.sl_base_quotients.specs.Quotient.{Quotient, quotient}
 use Rattle.sl_law_margins.specs.VotesToSpare.{with_fewer}
 use Rattle.sl_law_margins.specs.inner.Filled.{Fills, Reaches}
 use Rattle.sl_law_margins.proofs.Filling.{fills_none, fills_skipped, fills_reached, sum_more}

@@ -2,7 +2,7 @@ use Rattle.std.proofs.Common.{◌≡◌, ℕ, ◌+◌, ◌≤◌, List, length, 
 use Rattle.std.specs.Prelude.{take}
 use Rattle.std.proofs.lemmas.List.{take_all}
 use Rattle.std.proofs.lemmas.List.Sums.{sum_by_more, sum_by_more_le}
-use Rattle.sl_stages.proofs.methods.SeatSums.{entry_le_sum}
+use Rattle.sl_law_meaning.proofs.methods.SeatSums.{entry_le_sum}
 use Rattle.sl_law_margins.proofs.swings.seats_of_others.Goals as goal
 
 all_of : (s : List ℕ) (n all : ℕ) → all ≡ sum (take n s) → length s ≤ n → all ≡ sum s

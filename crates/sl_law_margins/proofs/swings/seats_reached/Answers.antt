@@ -1,7 +1,7 @@
 use Rattle.std.proofs.Common.{◌≡◌, ◌+◌, ◌-◌, ◌*◌, Bool, true, false, inl, inr, arith, sym, ap, subst, ◌∙◌}
 use Rattle.std.specs.Ordering.{is_le}
 use Rattle.std.proofs.lemmas.Bool.{cases_lt, true≢false}
-use Rattle.sl_ratio.specs.Quotient.{Quotient, AtMost, Below, compare, quotient}
+use Rattle.sl_base_quotients.specs.Quotient.{Quotient, AtMost, Below, compare, quotient}
 use Rattle.sl_law_margins.proofs.Claimants.{le_test}
 use Rattle.sl_law_margins.proofs.swings.seats_reached.Goals as goal
 

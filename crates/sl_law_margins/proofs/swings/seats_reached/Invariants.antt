@@ -1,6 +1,6 @@
 -- the last seat so far is by a claim that is no smaller
 use Rattle.std.proofs.Common.{◌-◌, ◌<◌, ◌≤◌}
-use Rattle.sl_ratio.specs.Quotient.{AtMost, quotient}
+use Rattle.sl_base_quotients.specs.Quotient.{AtMost, quotient}
 use Rattle.sl_law_margins.proofs.swings.seats_reached.Given as goal
 
 abbrev pub invariant-loop-seats : goal.invariant-loop-seats

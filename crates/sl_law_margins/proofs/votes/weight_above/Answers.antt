@@ -1,5 +1,5 @@
 use Rattle.std.proofs.Common.{◌<◌, ap, arith}
-use Rattle.sl_ratio.specs.Quotient.{Quotient, quotient}
+use Rattle.sl_base_quotients.specs.Quotient.{Quotient, quotient}
 use Rattle.sl_law_margins.specs.inner.Needed.{IsLeast, IsAbove}
 use Rattle.sl_law_margins.proofs.Overtaking.{found_above, above_fits, finite_by}
 use Rattle.sl_law_margins.proofs.votes.weight_above.Goals as goal

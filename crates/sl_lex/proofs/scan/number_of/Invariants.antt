@@ -1,5 +1,5 @@
 use Rattle.std.proofs.Common.{◌≡◌, ◌≤◌, take}
-use Rattle.sl_ratio.specs.declared.limits.TheConstants.{MAX_NUMBER}
+use Rattle.sl_base_quotients.specs.declared.limits.TheConstants.{MAX_NUMBER}
 use Rattle.sl_lex.specs.Tokens.{number_of}
 use Rattle.sl_lex.proofs.scan.number_of.Given as goal
 

@@ -1,8 +1,8 @@
 -- The product of the greatest factors fits.
 use Rattle.std.proofs.Common.{rules, ◌+◌, ◌*◌, ◌^◌, ◌<◌, ◌≤◌, arith}
 use Rattle.std.proofs.lemmas.Nat.{mul-le}
-use Rattle.sl_ratio.specs.declared.limits.TheConstants.{MAX_SEATS, MAX_LANDS, MAX_PARTIES}
-use Rattle.sl_stages.specs.declared.limits.TheConstants.{MAX_WINS}
+use Rattle.sl_base_quotients.specs.declared.limits.TheConstants.{MAX_SEATS, MAX_LANDS, MAX_PARTIES}
+use Rattle.sl_law_meaning.specs.declared.limits.TheConstants.{MAX_WINS}
 use Rattle.sl_code_semantics.specs.declared.budget.TheConstants.{STEPS_EACH}
 use Rattle.sl_machine.proofs.machine.share.Goals as goal
 

@@ -2,7 +2,7 @@ use Rattle.std.proofs.Common.{◌≡◌, ℕ, List, Err, drop}
 use Rattle.sl_lex.specs.declared.token.Token.{Token}
 use Rattle.sl_parse.specs.declared.fault.Cause.{Cause}
 use Rattle.sl_parse.specs.declared.fault.Cause.TheVariants.{Expected, TooDeep, TooManyStages, After}
-use Rattle.sl_stages.specs.book.Books.{book_of}
+use Rattle.sl_law_meaning.specs.book.Books.{book_of}
 use Rattle.sl_parse.specs.Parsing.{fault_at, limits, FaultIsAt, IsFaultOf}
 use Rattle.sl_parse.specs.inner.Reading.{read_book}
 use Rattle.sl_parse.proofs.OneTree.{within, is_within, same_book, not_stopped}

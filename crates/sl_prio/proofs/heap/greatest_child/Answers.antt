@@ -1,10 +1,10 @@
 use Rattle.std.proofs.Common.{◌≡◌, ◌+◌, ◌-◌, ◌*◌, subst, sym, ◌∙◌, inl, inr, arith}
 use Rattle.std.proofs.lemmas.Bool.{cases_Bool}
-use Rattle.sl_prio.proofs.Greatest.{AtMost-other}
+use Rattle.sl_base_rankings.proofs.Greatest.{AtMost-other}
 use Rattle.sl_prio.proofs.Heaps.{greater_child, only_child, under_read, under_not_greater}
 use Rattle.sl_prio.specs.inner.Heap.{IsGreatestChild}
-use Rattle.sl_ratio.specs.Entry.{entry_cmp}
-use Rattle.sl_prio.proofs.Orders.{entry_order}
+use Rattle.sl_base_quotients.specs.Entry.{entry_cmp}
+use Rattle.sl_base_rankings.proofs.Orders.{entry_order}
 use Rattle.sl_prio.proofs.heap.greatest_child.Goals as goal
 
 pub returns-then-right-entries : goal.returns-then-right-entries

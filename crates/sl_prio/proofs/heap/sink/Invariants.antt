@@ -1,6 +1,6 @@
 -- Whatever entry comes into the hole, the entries are those that came with it there, and the others would be a heap.
 use Rattle.std.proofs.Common.{◌≡◌, ◌<◌, ◌-◌, length, IsPermutation, set}
-use Rattle.sl_ratio.specs.declared.entry.Entry.{Entry}
+use Rattle.sl_base_quotients.specs.declared.entry.Entry.{Entry}
 use Rattle.sl_prio.specs.inner.Heap.{IsHeapBut}
 use Rattle.sl_prio.proofs.heap.sink.Given as goal
 

@@ -1,6 +1,6 @@
 use Rattle.std.proofs.Common.{◌≡◌, ◌+◌, ◌*◌, [], ◌∷◌, true, false, sym, ap, subst, ◌∙◌}
 use Rattle.std.specs.Ordering.{is_gt}
-use Rattle.sl_prio.specs.Lot.{lot_cmp}
+use Rattle.sl_base_rankings.specs.Lot.{lot_cmp}
 use Rattle.sl_prio.specs.inner.Heap.{IsDrawnFrom, peers_under}
 use Rattle.sl_prio.proofs.Draws.{drawn_from_none, drawn_from_on, drawn_here, drawn_before}
 use Rattle.sl_prio.proofs.peers.+draw.Goals as goal

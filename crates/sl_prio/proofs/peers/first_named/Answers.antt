@@ -1,5 +1,5 @@
 use Rattle.std.proofs.Common.{Some, get_or, sym, ap, ◌∙◌, subst}
-use Rattle.sl_ratio.specs.declared.entry.Entry.{Entry}
+use Rattle.sl_base_quotients.specs.declared.entry.Entry.{Entry}
 use Rattle.sl_prio.specs.inner.Heap.{IsAt, is_peer_with, peers_under}
 use Rattle.sl_prio.proofs.PassedNames.{first_at, none_left, passed_on}
 use Rattle.sl_prio.proofs.PeerMarks.{has_it, its_index}

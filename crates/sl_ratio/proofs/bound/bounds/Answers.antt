@@ -1,7 +1,7 @@
 use Rattle.std.proofs.Common.{None, Some, ap, arith, if◌then◌else◌, is_le, ◌∙◌}
 use Rattle.sl_ratio.proofs.Searches.{pair_if, sum_none}
 use Rattle.sl_ratio.proofs.bound.bounds.Goals as goal
-use Rattle.sl_ratio.specs.Quotient.{Quotient}
+use Rattle.sl_base_quotients.specs.Quotient.{Quotient}
 
 pub returns-in_err-last : goal.returns-in_err-last
 returns-in_err-last c =

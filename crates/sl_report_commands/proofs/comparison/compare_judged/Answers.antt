@@ -1,7 +1,7 @@
 use Rattle.std.proofs.Common.{[], subst, sym, ◌++◌, ◌∷◌}
 use Rattle.std.specs.List.{AllZip}
 use Rattle.sl_report_commands.specs.Compared.{IsComparedTo}
-use Rattle.sl_stages.proofs.meaning.Members.{all_and_one}
+use Rattle.sl_law_meaning.proofs.meaning.Members.{all_and_one}
 use Rattle.sl_report_commands.proofs.comparison.compare_judged.Goals as goal
 
 pub loop-compared-preserved : goal.loop-compared-preserved

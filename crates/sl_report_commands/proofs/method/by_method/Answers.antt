@@ -1,8 +1,8 @@
 -- The limits are kept.
 use Rattle.std.proofs.Common.{arith, map}
 use Rattle.std.specs.Vec.{with_items}
-use Rattle.sl_stages.specs.book.Books.{book_of}
-use Rattle.sl_stages.specs.book.Trees.{stage_of}
+use Rattle.sl_law_meaning.specs.book.Books.{book_of}
+use Rattle.sl_law_meaning.specs.book.Trees.{stage_of}
 use Rattle.sl_report_commands.proofs.SameLimits.{all_set, same_limits, same_small}
 use Rattle.sl_report_commands.proofs.method.by_method.Goals as goal
 

@@ -1,6 +1,6 @@
 -- One more stage has the method.
 use Rattle.std.proofs.Common.{arith, map, refl}
-use Rattle.sl_stages.specs.book.Trees.{stage_of}
+use Rattle.sl_law_meaning.specs.book.Trees.{stage_of}
 use Rattle.sl_report_commands.specs.Methods.{stage_by_method}
 use Rattle.sl_report_commands.proofs.OneSet.{one_set}
 use Rattle.sl_report_commands.proofs.method.set_methods.Goals as goal

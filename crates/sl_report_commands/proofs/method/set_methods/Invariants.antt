@@ -1,5 +1,5 @@
 use Rattle.std.proofs.Common.{◌≡◌, ◌++◌, drop, map, take}
-use Rattle.sl_stages.specs.book.Trees.{stage_of}
+use Rattle.sl_law_meaning.specs.book.Trees.{stage_of}
 use Rattle.sl_report_commands.specs.Methods.{stage_by_method}
 use Rattle.sl_report_commands.proofs.method.set_methods.Given as goal
 

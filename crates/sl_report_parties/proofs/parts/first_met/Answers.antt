@@ -1,6 +1,6 @@
 use Rattle.std.proofs.Common.{arith, sym, ◌∙◌}
-use Rattle.sl_stages.specs.declared.book.Cond.TheVariants as condition
-use Rattle.sl_stages.specs.returns.Facts.{meets}
+use Rattle.sl_law_meaning.specs.declared.book.Cond.TheVariants as condition
+use Rattle.sl_law_meaning.specs.returns.Facts.{meets}
 use Rattle.sl_report_parties.proofs.Steps.{first_is, none_is}
 use Rattle.sl_report_parties.proofs.parts.first_met.Goals as goal
 

@@ -1,6 +1,6 @@
 use Rattle.std.proofs.Common.{◌≡◌, ◌<◌, ℕ, false, get_or}
-use Rattle.sl_stages.specs.declared.book.Cond.{Cond}
-use Rattle.sl_stages.specs.returns.Facts.{meets}
+use Rattle.sl_law_meaning.specs.declared.book.Cond.{Cond}
+use Rattle.sl_law_meaning.specs.returns.Facts.{meets}
 use Rattle.sl_report_parties.proofs.parts.first_met.Given as goal
 
 abbrev pub invariant-loop-number : goal.invariant-loop-number

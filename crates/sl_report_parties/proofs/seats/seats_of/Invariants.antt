@@ -1,6 +1,6 @@
 use Rattle.std.proofs.Common.{◌≡◌, ◌+◌, ◌&&◌, take, count_by}
 use Rattle.std.specs.List.{zip}
-use Rattle.sl_stages.specs.returns.Facts.{is_of}
+use Rattle.sl_law_meaning.specs.returns.Facts.{is_of}
 use Rattle.sl_report_parties.specs.Sums.{capped}
 use Rattle.sl_report_parties.specs.Seats.{of_lists, is_single, is_seated}
 use Rattle.sl_report_parties.proofs.seats.seats_of.Given as goal

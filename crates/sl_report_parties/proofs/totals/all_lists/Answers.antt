@@ -1,7 +1,7 @@
 use Rattle.std.proofs.Common.{arith, sum_by}
 use Rattle.sl_report_parties.specs.Sums.{capped, lists_of}
 use Rattle.sl_report_parties.proofs.Steps.{sum_range_more, at_last}
-use Rattle.sl_stages.specs.returns.Election.{parties_of}
+use Rattle.sl_law_meaning.specs.returns.Election.{parties_of}
 use Rattle.sl_report_parties.proofs.totals.all_lists.Goals as goal
 
 pub loop-party-preserved : goal.loop-party-preserved

@@ -2,7 +2,7 @@ use Rattle.std.proofs.Common.{arith, ◌∙◌, sum_by}
 use Rattle.std.specs.Prelude.{slice_index}
 use Rattle.sl_report_parties.proofs.Steps.{sum_range_more, at_last}
 use Rattle.sl_report_parties.specs.Sums.{capped}
-use Rattle.sl_stages.specs.returns.Election.{lands_of}
+use Rattle.sl_law_meaning.specs.returns.Election.{lands_of}
 use Rattle.sl_report_parties.proofs.totals.all_people.Goals as goal
 
 pub loop-land-preserved : goal.loop-land-preserved

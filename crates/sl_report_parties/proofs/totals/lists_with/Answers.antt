@@ -1,8 +1,8 @@
 use Rattle.std.proofs.Common.{arith, cond, ap, count_by}
-use Rattle.sl_stages.specs.returns.Election.{has_list}
+use Rattle.sl_law_meaning.specs.returns.Election.{has_list}
 use Rattle.sl_report_parties.specs.Sums.{one_if}
 use Rattle.sl_report_parties.proofs.Steps.{one_if_le, sum_range_more, at_last}
-use Rattle.sl_stages.specs.returns.Election.{lands_of}
+use Rattle.sl_law_meaning.specs.returns.Election.{lands_of}
 use Rattle.sl_report_parties.proofs.totals.lists_with.Goals as goal
 
 pub loop-land-preserved : goal.loop-land-preserved

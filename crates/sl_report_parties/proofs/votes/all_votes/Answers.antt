@@ -1,6 +1,6 @@
 use Rattle.std.proofs.Common.{arith}
-use Rattle.sl_stages.specs.returns.Votes.{counted_in}
-use Rattle.sl_stages.specs.returns.Facts.{valid_votes}
+use Rattle.sl_law_meaning.specs.returns.Votes.{counted_in}
+use Rattle.sl_law_meaning.specs.returns.Facts.{valid_votes}
 use Rattle.sl_report_parties.specs.Sums.{party_sum}
 use Rattle.sl_report_parties.proofs.Steps.{sum_range_more}
 use Rattle.sl_report_parties.proofs.votes.all_votes.Goals as goal

@@ -1,8 +1,8 @@
 use Rattle.std.proofs.Common.{◌≡◌, ◌*◌, ◌≤◌, ◌^◌}
 use Rattle.std.specs.Prelude.{sum_by}
 use Rattle.std.specs.List.{range_with_len}
-use Rattle.sl_stages.specs.returns.Votes.{counted_in}
-use Rattle.sl_stages.specs.returns.Facts.{valid_votes}
+use Rattle.sl_law_meaning.specs.returns.Votes.{counted_in}
+use Rattle.sl_law_meaning.specs.returns.Facts.{valid_votes}
 use Rattle.sl_report_parties.specs.Sums.{party_sum}
 use Rattle.sl_report_parties.proofs.votes.all_votes.Given as goal
 

@@ -1,6 +1,6 @@
 use Rattle.std.proofs.Common.{arith}
-use Rattle.sl_stages.specs.returns.Election.{list_at}
-use Rattle.sl_stages.specs.returns.Votes.{valid_in, counted_in}
+use Rattle.sl_law_meaning.specs.returns.Election.{list_at}
+use Rattle.sl_law_meaning.specs.returns.Votes.{valid_in, counted_in}
 use Rattle.sl_report_parties.proofs.Steps.{sum_range_more}
 use Rattle.sl_report_parties.proofs.votes.land_votes.Goals as goal
 

@@ -1,8 +1,8 @@
 use Rattle.std.proofs.Common.{◌≡◌, ◌*◌, ◌≤◌, ◌^◌}
 use Rattle.std.specs.Prelude.{sum_by}
 use Rattle.std.specs.List.{range_with_len}
-use Rattle.sl_stages.specs.returns.Election.{list_at}
-use Rattle.sl_stages.specs.returns.Votes.{valid_in, counted_in}
+use Rattle.sl_law_meaning.specs.returns.Election.{list_at}
+use Rattle.sl_law_meaning.specs.returns.Votes.{valid_in, counted_in}
 use Rattle.sl_report_parties.proofs.votes.party_votes.Given as goal
 
 abbrev pub invariant-loop-land : goal.invariant-loop-land

@@ -1,5 +1,5 @@
 use Rattle.std.proofs.Common.{arith, refl, nat_eq, count_by}
-use Rattle.sl_stages.specs.returns.Facts.{is_in}
+use Rattle.sl_law_meaning.specs.returns.Facts.{is_in}
 use Rattle.sl_report_parties.proofs.Steps.{count_next, one_if_le, at_end}
 use Rattle.sl_report_parties.proofs.votes.winners_in.Goals as goal
 

@@ -1,5 +1,5 @@
 use Rattle.std.proofs.Common.{◌≡◌, ◌≤◌, take, count_by}
-use Rattle.sl_stages.specs.returns.Facts.{is_in}
+use Rattle.sl_law_meaning.specs.returns.Facts.{is_in}
 use Rattle.sl_report_parties.proofs.votes.winners_in.Given as goal
 
 abbrev pub invariant-loop-number : goal.invariant-loop-number

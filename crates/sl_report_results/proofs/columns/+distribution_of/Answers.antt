@@ -1,10 +1,10 @@
 use Rattle.std.proofs.Common.{◌+◌, ◌≤◌, arith, length, refl, sym, ap, subst}
 use Rattle.sl_report_results.proofs.Divided.{of_growth, of_split}
 use Rattle.sl_report_results.specs.Values.{types_before, IsWellFormed, HasNoSplit}
-use Rattle.sl_stages.specs.book.Books.{book_of}
-use Rattle.sl_stages.specs.book.Limits.{depth_of}
-use Rattle.sl_stages.specs.book.Trees.{pair, sum, tree_of}
-use Rattle.sl_stages.specs.book.Typing.{expr_tests, splits_in}
+use Rattle.sl_law_meaning.specs.book.Books.{book_of}
+use Rattle.sl_law_meaning.specs.book.Limits.{depth_of}
+use Rattle.sl_law_meaning.specs.book.Trees.{pair, sum, tree_of}
+use Rattle.sl_law_meaning.specs.book.Typing.{expr_tests, splits_in}
 use Rattle.sl_base_terms.proofs.Tests.{pass_parts}
 use Rattle.sl_report_results.proofs.columns.+distribution_of.Goals as goal
 

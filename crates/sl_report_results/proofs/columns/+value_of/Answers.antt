@@ -2,13 +2,13 @@ use Rattle.std.proofs.Common.{IfOk, arith, length, refl, sym, ap, subst, ◌∙�
 use Rattle.sl_report_results.proofs.Typed.{column_of, few, not_capped, fits, ok_both}
 use Rattle.sl_report_results.proofs.ValueSteps.{sum_value, pair_value}
 use Rattle.sl_report_results.specs.Values.{named_columns, types_before, IsColumnOf, IsValue, IsWellFormed, HasNoSplit}
-use Rattle.sl_stages.specs.book.Books.{book_of}
-use Rattle.sl_stages.specs.book.Limits.{depth_of}
-use Rattle.sl_stages.specs.laws.ColumnLaws.{most_of}
-use Rattle.sl_stages.specs.book.Trees.{fact, name, pair, sum, tree_of}
-use Rattle.sl_stages.specs.book.Typing.{expr_tests, sum_tests, type_of}
+use Rattle.sl_law_meaning.specs.book.Books.{book_of}
+use Rattle.sl_law_meaning.specs.book.Limits.{depth_of}
+use Rattle.sl_law_meaning.specs.laws.ColumnLaws.{most_of}
+use Rattle.sl_law_meaning.specs.book.Trees.{fact, name, pair, sum, tree_of}
+use Rattle.sl_law_meaning.specs.book.Typing.{expr_tests, sum_tests, type_of}
 use Rattle.std.specs.Prelude.{find, option_map}
-use Rattle.sl_stages.specs.meaning.Columns.{is_column_of, sum_over}
+use Rattle.sl_law_meaning.specs.meaning.Columns.{is_column_of, sum_over}
 use Rattle.sl_base_terms.proofs.Tests.{pass_parts}
 use Rattle.sl_report_results.proofs.columns.+value_of.Goals as goal
 

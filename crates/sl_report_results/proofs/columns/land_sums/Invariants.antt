@@ -1,7 +1,7 @@
 use Rattle.std.proofs.Common.{◌≡◌, map}
 use Rattle.std.specs.Prelude.{sum_by}
 use Rattle.std.specs.List.{range_with_len}
-use Rattle.sl_stages.specs.returns.Facts.{list_cell, parties}
+use Rattle.sl_law_meaning.specs.returns.Facts.{list_cell, parties}
 use Rattle.sl_report_parties.specs.Sums.{capped}
 use Rattle.sl_report_results.proofs.columns.land_sums.Given as goal
 

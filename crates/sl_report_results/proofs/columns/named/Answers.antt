@@ -1,7 +1,7 @@
 use Rattle.std.proofs.Common.{◌≡◌, ◌<◌, ℕ, false, Some, get_or, length, true, sym, ap, subst, ◌∙◌}
 use Rattle.std.specs.Str.{bytes_eq}
-use Rattle.sl_stages.specs.declared.book.Stage.{Stage}
-use Rattle.sl_stages.specs.book.Books.{book_of}
+use Rattle.sl_law_meaning.specs.declared.book.Stage.{Stage}
+use Rattle.sl_law_meaning.specs.book.Books.{book_of}
 use Rattle.sl_report_results.specs.Values.{types_before}
 use Rattle.sl_report_results.proofs.Named.{found}
 use Rattle.sl_report_results.proofs.Typed.{not_known, shape_of, ok_weaker}

@@ -3,7 +3,7 @@ use Rattle.std.specs.List.{zip}
 use Rattle.std.proofs.lemmas.List.{take_all}
 use Rattle.std.proofs.lemmas.Option.{slice_get-get_or}
 use Rattle.std.proofs.lemmas.Slice.Zip.{length-zip}
-use Rattle.sl_stages.specs.meaning.Columns.{paired, pair_of}
+use Rattle.sl_law_meaning.specs.meaning.Columns.{paired, pair_of}
 use Rattle.sl_report_parties.proofs.Steps.{zip_at, map_next}
 use Rattle.sl_report_results.proofs.columns.paired.Goals as goal
 

@@ -1,6 +1,6 @@
 use Rattle.std.proofs.Common.{◌≡◌, map, take}
 use Rattle.std.specs.List.{zip}
-use Rattle.sl_stages.specs.meaning.Columns.{paired}
+use Rattle.sl_law_meaning.specs.meaning.Columns.{paired}
 use Rattle.sl_report_results.proofs.columns.paired.Given as goal
 
 abbrev pub invariant-loop-number : goal.invariant-loop-number

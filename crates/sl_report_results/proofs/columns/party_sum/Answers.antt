@@ -1,6 +1,6 @@
 use Rattle.std.proofs.Common.{◌≡◌, ◌<◌, get_or, arith, ap, ◌∙◌}
-use Rattle.sl_stages.specs.returns.Election.{lands_of}
-use Rattle.sl_stages.specs.returns.Facts.{list_cell}
+use Rattle.sl_law_meaning.specs.returns.Election.{lands_of}
+use Rattle.sl_law_meaning.specs.returns.Facts.{list_cell}
 use Rattle.sl_report_parties.proofs.Steps.{sum_range_more}
 use Rattle.sl_report_results.proofs.columns.party_sum.Goals as goal
 

@@ -2,8 +2,8 @@ use Rattle.std.proofs.Common.{◌≡◌, map, ℕ, arith, ap, sym, ◌∙◌}
 use Rattle.std.specs.Prelude.{sum_by}
 use Rattle.std.specs.List.{range_with_len}
 use Rattle.std.proofs.lemmas.Simd.{map-map}
-use Rattle.sl_stages.specs.returns.Facts.{lands, parties, list_cell}
-use Rattle.sl_stages.specs.returns.Election.{parties_of}
+use Rattle.sl_law_meaning.specs.returns.Facts.{lands, parties, list_cell}
+use Rattle.sl_law_meaning.specs.returns.Election.{parties_of}
 use Rattle.sl_report_parties.specs.Sums.{capped}
 use Rattle.sl_report_parties.proofs.Steps.{mapped_more}
 use Rattle.sl_report_results.proofs.columns.party_sums.Goals as goal

@@ -5,7 +5,7 @@ use Rattle.sl_report_results.specs.Scopes.{scope_entries, shown_entries}
 use Rattle.sl_report_results.specs.StageScopes.{name_of}
 use Rattle.sl_report_results.specs.declared.scopes.Entry.{Entry}
 use Rattle.sl_report_results.specs.inner.Within.{is_step_in}
-use Rattle.sl_stages.specs.meaning.Lots.{stage_lot}
+use Rattle.sl_law_meaning.specs.meaning.Lots.{stage_lot}
 use Rattle.sl_report_results.proofs.distributed.entries_in.Goals as goal
 
 pub returns : goal.returns

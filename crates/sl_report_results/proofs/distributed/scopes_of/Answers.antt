@@ -5,7 +5,7 @@ use Rattle.sl_report_results.proofs.ScopeSteps.{scope_more, scope_within, scopes
 use Rattle.sl_report_results.specs.Places.{IsScope, items_in, scope_count}
 use Rattle.sl_report_results.specs.Scopes.{Adds, IsScopeOf, has_entry, scope_entries}
 use Rattle.sl_report_results.specs.StageScopes.{name_of}
-use Rattle.sl_stages.specs.meaning.Scopes.{scopes}
+use Rattle.sl_law_meaning.specs.meaning.Scopes.{scopes}
 use Rattle.sl_report_results.proofs.distributed.scopes_of.Goals as goal
 
 pub push_scope-requires-clause-scope : goal.push_scope-requires-clause-scope

@@ -2,7 +2,7 @@ use Rattle.std.proofs.Common.{take, filter}
 use Rattle.std.specs.List.{AllZip}
 use Rattle.sl_report_results.specs.Scopes.{IsScopeOf, has_entry}
 use Rattle.sl_report_results.specs.StageScopes.{name_of}
-use Rattle.sl_stages.specs.meaning.Scopes.{scopes}
+use Rattle.sl_law_meaning.specs.meaning.Scopes.{scopes}
 use Rattle.sl_report_results.proofs.distributed.scopes_of.Given as goal
 
 abbrev pub invariant-loop-number : goal.invariant-loop-number

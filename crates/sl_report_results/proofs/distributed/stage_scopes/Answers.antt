@@ -7,8 +7,8 @@ use Rattle.sl_report_results.proofs.Typed.{ok_weaker}
 use Rattle.sl_report_results.specs.StageScopes.{AreStageScopes, name_of}
 use Rattle.sl_report_results.specs.Scopes.{AreScopes}
 use Rattle.sl_report_results.specs.Values.{HasNoSplit, HaveTypes, IsDistributed, IsWellFormed, named_columns, types_before}
-use Rattle.sl_stages.specs.book.Books.{book_of}
-use Rattle.sl_stages.specs.book.Trees.{tree_of}
+use Rattle.sl_law_meaning.specs.book.Books.{book_of}
+use Rattle.sl_law_meaning.specs.book.Trees.{tree_of}
 use Rattle.sl_report_results.proofs.distributed.stage_scopes.Goals as goal
 
 pub slice_bounds-earlier-end : goal.slice_bounds-earlier-end

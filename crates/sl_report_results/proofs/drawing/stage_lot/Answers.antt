@@ -1,6 +1,6 @@
 use Rattle.std.proofs.Common.{filter, filter_map}
 use Rattle.std.specs.Str.{bytes_eq}
-use Rattle.sl_stages.specs.meaning.Lots.{given_entry, lot_among}
+use Rattle.sl_law_meaning.specs.meaning.Lots.{given_entry, lot_among}
 use Rattle.sl_report_parties.proofs.Steps.{at_end}
 use Rattle.std.proofs.Common.{◌≡◌, Some, sym, ap, subst, ◌∙◌}
 use Rattle.std.specs.Prelude.{slice_get}

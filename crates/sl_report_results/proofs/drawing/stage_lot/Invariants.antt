@@ -1,6 +1,6 @@
 use Rattle.std.proofs.Common.{◌≡◌, filter, filter_map, take}
 use Rattle.std.specs.Str.{bytes_eq}
-use Rattle.sl_stages.specs.meaning.Lots.{given_entry, lot_among}
+use Rattle.sl_law_meaning.specs.meaning.Lots.{given_entry, lot_among}
 use Rattle.sl_report_results.proofs.drawing.stage_lot.Given as goal
 
 abbrev pub invariant-loop-lot : goal.invariant-loop-lot

@@ -1,6 +1,6 @@
-use Rattle.sl_ratio.specs.Bounds.{IsLast}
+use Rattle.sl_base_quotients.specs.Bounds.{IsLast}
 use Rattle.sl_report_results.proofs.Borders.{first_listed}
-use Rattle.sl_stages.proofs.methods.DivisorProofs.{in_range}
+use Rattle.sl_law_meaning.proofs.methods.DivisorProofs.{in_range}
 use Rattle.sl_report_results.proofs.lots.last_claim.Goals as goal
 
 pub last_of-requires-clause-within : goal.last_of-requires-clause-within

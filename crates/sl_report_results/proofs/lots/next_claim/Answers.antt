@@ -1,6 +1,6 @@
-use Rattle.sl_ratio.specs.Bounds.{IsNext}
+use Rattle.sl_base_quotients.specs.Bounds.{IsNext}
 use Rattle.sl_report_results.proofs.Borders.{first_listed}
-use Rattle.sl_stages.proofs.methods.DivisorProofs.{in_range}
+use Rattle.sl_law_meaning.proofs.methods.DivisorProofs.{in_range}
 use Rattle.sl_report_results.proofs.lots.next_claim.Goals as goal
 
 pub next_of-requires-clause-within : goal.next_of-requires-clause-within

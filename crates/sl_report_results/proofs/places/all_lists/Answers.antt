@@ -1,6 +1,6 @@
 use Rattle.std.proofs.Common.{ap, flat_map, ◌∙◌, arith}
 use Rattle.std.specs.List.{range_with_len}
-use Rattle.sl_stages.specs.meaning.Scopes.{lists_in_land}
+use Rattle.sl_law_meaning.specs.meaning.Scopes.{lists_in_land}
 use Rattle.sl_report_parties.proofs.Steps.{pieces_more}
 use Rattle.sl_report_results.proofs.places.all_lists.Goals as goal
 

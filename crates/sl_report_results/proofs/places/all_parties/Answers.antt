@@ -1,5 +1,5 @@
 use Rattle.std.proofs.Common.{refl}
-use Rattle.sl_stages.specs.declared.fault.Item.TheVariants as item
+use Rattle.sl_law_meaning.specs.declared.fault.Item.TheVariants as item
 use Rattle.sl_report_parties.proofs.Steps.{mapped_more}
 use Rattle.sl_report_results.proofs.places.all_parties.Goals as goal
 

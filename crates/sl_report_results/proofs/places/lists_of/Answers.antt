@@ -1,7 +1,7 @@
 use Rattle.std.proofs.Common.{ap, filter, map, ◌∙◌, arith}
 use Rattle.std.specs.List.{range_with_len}
-use Rattle.sl_stages.specs.declared.fault.Item.TheVariants as item
-use Rattle.sl_stages.specs.returns.Election.{has_list}
+use Rattle.sl_law_meaning.specs.declared.fault.Item.TheVariants as item
+use Rattle.sl_law_meaning.specs.returns.Election.{has_list}
 use Rattle.sl_report_parties.proofs.Steps.{filtered_more}
 use Rattle.sl_report_results.proofs.places.lists_of.Goals as goal
 

@@ -1,7 +1,7 @@
 use Rattle.std.proofs.Common.{Bor, Err, IfOk, List, Ok, OnOk, Result, ap, append_assoc, map, ◌≡◌, ◌∙◌, ◌++◌, ◌∷◌, []}
 use Rattle.std.specs.Prelude.{option_map}
 use Rattle.std.specs.Result.{result_and}
-use Rattle.sl_ratio.specs.declared.no_memory.NoMemory.{NoMemory}
+use Rattle.sl_base_quotients.specs.declared.no_memory.NoMemory.{NoMemory}
 use Rattle.sl_report_forms.specs.Cells.{Content}
 use Rattle.sl_report_forms.specs.Tables.{Table, table_of, with_rows}
 use Rattle.sl_report_forms.specs.declared.sheet.Sheet.{Sheet}

@@ -3,7 +3,7 @@ use Rattle.sl_report_forms.specs.Tables.{table_of}
 use Rattle.sl_report_tables.specs.Totals.{IsVotesTable, lands_table, totals_table, warnings_table, winners_table}
 use Rattle.sl_report_tables.proofs.MoreTables.{kind_added, option_twice, table_added}
 use Rattle.sl_report_warnings.specs.Warnings.{warnings_of}
-use Rattle.sl_stages.specs.book.Books.{book_of}
+use Rattle.sl_law_meaning.specs.book.Books.{book_of}
 use Rattle.sl_report_tables.proofs.totals.total_sheets.Goals as goal
 
 pub returns : goal.returns

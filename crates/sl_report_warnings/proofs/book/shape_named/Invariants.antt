@@ -1,7 +1,7 @@
 -- The stage is not among those after it: it is the first of the rest.
 use Rattle.std.proofs.Common.{drop, map, ◌≡◌}
 use Rattle.sl_check.specs.inner.Known.{columns}
-use Rattle.sl_stages.specs.book.Trees.{stage_of}
+use Rattle.sl_law_meaning.specs.book.Trees.{stage_of}
 use Rattle.sl_report_warnings.specs.Warnings.{shape_named}
 use Rattle.sl_report_warnings.proofs.book.shape_named.Given as goal
 

@@ -1,6 +1,6 @@
 use Rattle.std.proofs.Common.{◌++◌, ◌≡◌}
 use Rattle.std.specs.List.{flat_map, range_with_len}
-use Rattle.sl_stages.specs.book.Books.{book_of}
+use Rattle.sl_law_meaning.specs.book.Books.{book_of}
 use Rattle.sl_report_warnings.specs.Warnings.{of_numbered}
 use Rattle.sl_report_warnings.proofs.book.warn_of_lots.Given as goal
 

@@ -1,7 +1,7 @@
 use Rattle.std.proofs.Common.{ap, arith, cond}
 use Rattle.sl_report_parties.proofs.Steps.{one_if_le, sum_range_more}
 use Rattle.sl_report_parties.specs.Sums.{one_if}
-use Rattle.sl_stages.specs.returns.Election.{list_at}
+use Rattle.sl_law_meaning.specs.returns.Election.{list_at}
 use Rattle.sl_report_warnings.proofs.returns.uncounted_lists.Goals as goal
 use Rattle.sl_report_warnings.specs.Warnings.{counts_none}
 

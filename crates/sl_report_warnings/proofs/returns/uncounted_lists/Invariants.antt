@@ -1,6 +1,6 @@
 use Rattle.std.proofs.Common.{count_by, ◌≡◌, ◌≤◌}
 use Rattle.std.specs.List.{range_with_len}
-use Rattle.sl_stages.specs.returns.Election.{list_at}
+use Rattle.sl_law_meaning.specs.returns.Election.{list_at}
 use Rattle.sl_report_warnings.specs.Warnings.{counts_none}
 use Rattle.sl_report_warnings.proofs.returns.uncounted_lists.Given as goal
 

@@ -1,7 +1,7 @@
 -- The test that fails is the first.
 use Rattle.std.proofs.Common.{◌<◌, length}
 use Rattle.std.proofs.lemmas.Bool.{ltb-true}
-use Rattle.sl_ratio.specs.declared.limits.TheConstants.{MAX_LANDS}
+use Rattle.sl_base_quotients.specs.declared.limits.TheConstants.{MAX_LANDS}
 use Rattle.sl_returns.proofs.NameTests.{may_join}
 use Rattle.sl_returns.proofs.TestLemmas.{after, both, here, nothing, exit, wanting}
 use Rattle.sl_returns.proofs.join.join_land.Goals as goal

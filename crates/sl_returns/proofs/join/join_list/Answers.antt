@@ -3,7 +3,7 @@ use Rattle.std.proofs.Common.{◌≡◌, refl, sym, ◌∙◌}
 use Rattle.std.proofs.lemmas.Bool.{leb-true, not-true}
 use Rattle.std.proofs.lemmas.Result.{on_ok_weaker}
 use Rattle.csv.specs.Records.{fields_of}
-use Rattle.sl_stages.specs.returns.Election.{with_list}
+use Rattle.sl_law_meaning.specs.returns.Election.{with_list}
 use Rattle.sl_returns.specs.Tests.{Pass, list_tests}
 use Rattle.sl_returns.specs.inner.Joining.{with_list_of}
 use Rattle.sl_returns.proofs.NameTests.{found_place}

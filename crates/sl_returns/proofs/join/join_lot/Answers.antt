@@ -2,7 +2,7 @@
 use Rattle.std.proofs.Common.{◌≡◌, ap, sym, ◌∙◌}
 use Rattle.std.proofs.lemmas.Result.{on_ok_weaker}
 use Rattle.csv.specs.Records.{fields_of}
-use Rattle.sl_stages.specs.returns.Election.{with_lot}
+use Rattle.sl_law_meaning.specs.returns.Election.{with_lot}
 use Rattle.sl_returns.specs.inner.Joining.{with_lot_of}
 use Rattle.std.proofs.lemmas.Bool.{not-true}
 use Rattle.sl_returns.specs.declared.index.Index.{Index}

@@ -2,11 +2,11 @@
 use Rattle.std.proofs.Common.{◌≡◌, ◌<◌, ◌∙◌, refl, length, arith}
 use Rattle.std.proofs.lemmas.Result.{on_ok_weaker}
 use Rattle.csv.specs.Records.{fields_of}
-use Rattle.sl_stages.specs.returns.Election.{with_win}
+use Rattle.sl_law_meaning.specs.returns.Election.{with_win}
 use Rattle.sl_returns.specs.inner.Joining.{with_win_of}
 use Rattle.sl_returns.proofs.join.join_win.Goals.{After-kept-2}
 use Rattle.std.proofs.lemmas.Bool.{ltb-true}
-use Rattle.sl_stages.specs.declared.limits.TheConstants.{MAX_WINS}
+use Rattle.sl_law_meaning.specs.declared.limits.TheConstants.{MAX_WINS}
 use Rattle.sl_returns.proofs.NameTests.{found_or_none, found_place, may_join}
 use Rattle.sl_returns.proofs.TestLemmas.{after, both, here, nothing, exit, left_wanting, taken, wanting}
 use Rattle.sl_returns.proofs.join.join_win.Goals as goal

@@ -1,7 +1,7 @@
 -- The list with its names.
 use Rattle.std.proofs.Common.{ℕ, Option, is_some, ap, sym, ◌∙◌}
-use Rattle.sl_stages.specs.returns.Election.{list_at, with_list, with_slate}
-use Rattle.sl_stages.proofs.Elections.{slate_told}
+use Rattle.sl_law_meaning.specs.returns.Election.{list_at, with_list, with_slate}
+use Rattle.sl_law_meaning.proofs.Elections.{slate_told}
 use Rattle.sl_returns.proofs.join.keep_list.Goals as goal
 
 pub set_slate-requires-clause-list : goal.set_slate-requires-clause-list

@@ -1,6 +1,6 @@
 use Rattle.std.proofs.Common.{◌<◌, [], get_or, sym, ap, ◌∙◌, arith}
 use Rattle.std.proofs.lemmas.Option.{get_or_from_slice_get}
-use Rattle.sl_stages.specs.returns.Election.{lands_of}
+use Rattle.sl_law_meaning.specs.returns.Election.{lands_of}
 use Rattle.sl_count_texts.specs.Lines.{with_lines}
 use Rattle.sl_table.specs.Stages.{entry_line, land_entry}
 use Rattle.sl_table.proofs.EntryLines.{numbers_more, numbers_all}

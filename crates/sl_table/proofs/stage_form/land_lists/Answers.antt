@@ -1,5 +1,5 @@
 use Rattle.std.proofs.Common.{◌+◌, ◌*◌, get_or, sym, ap, ◌∙◌}
-use Rattle.sl_stages.specs.returns.Election.{has_list}
+use Rattle.sl_law_meaning.specs.returns.Election.{has_list}
 use Rattle.sl_count_texts.specs.Faults.{list_word}
 use Rattle.sl_count_texts.specs.Lines.{with_lines}
 use Rattle.sl_table.specs.Stages.{entry_line, list_entry}

@@ -1,6 +1,6 @@
 use Rattle.std.proofs.Common.{◌≡◌, flat_map}
 use Rattle.std.specs.List.{filter, range_with_len}
-use Rattle.sl_stages.specs.returns.Election.{has_list}
+use Rattle.sl_law_meaning.specs.returns.Election.{has_list}
 use Rattle.sl_count_texts.specs.Lines.{with_lines}
 use Rattle.sl_table.specs.Stages.{list_entry}
 use Rattle.sl_table.proofs.stage_form.land_lists.Given as goal

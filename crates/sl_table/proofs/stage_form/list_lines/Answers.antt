@@ -1,5 +1,5 @@
 use Rattle.std.proofs.Common.{◌<◌, arith}
-use Rattle.sl_stages.specs.returns.Election.{lands_of}
+use Rattle.sl_law_meaning.specs.returns.Election.{lands_of}
 use Rattle.sl_table.specs.Stages.{land_lists}
 use Rattle.sl_table.proofs.EntryLines.{numbers_more, numbers_all}
 use Rattle.sl_table.proofs.stage_form.list_lines.Goals as goal

@@ -1,5 +1,5 @@
 use Rattle.std.proofs.Common.{◌≡◌, flat_map, take}
-use Rattle.sl_stages.specs.returns.Facts.{lands}
+use Rattle.sl_law_meaning.specs.returns.Facts.{lands}
 use Rattle.sl_count_texts.specs.Lines.{with_lines}
 use Rattle.sl_table.specs.Stages.{land_lists}
 use Rattle.sl_table.proofs.stage_form.list_lines.Given as goal

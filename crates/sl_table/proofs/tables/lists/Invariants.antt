@@ -1,7 +1,7 @@
 use Rattle.std.proofs.Common.{◌≡◌, map}
 use Rattle.std.specs.List.{filter, flat_map, range_with_len}
-use Rattle.sl_stages.specs.returns.Election.{has_list}
-use Rattle.sl_stages.specs.returns.Facts.{parties}
+use Rattle.sl_law_meaning.specs.returns.Election.{has_list}
+use Rattle.sl_law_meaning.specs.returns.Facts.{parties}
 use Rattle.sl_code_semantics.specs.Tables.{held_line}
 use Rattle.sl_table.proofs.tables.lists.Given as goal
 

@@ -1,10 +1,10 @@
 use Rattle.std.proofs.Common.{◌≡◌, ◌≤◌, ◌+◌, ◌*◌, ℕ, List, length, get_or, ap, sym, ◌∙◌, arith}
 use Rattle.std.proofs.lemmas.List.{append-nil}
 use Rattle.std.proofs.lemmas.Nat.{row_fits}
-use Rattle.sl_stages.specs.declared.table.ListSeats.{ListSeats}
-use Rattle.sl_stages.specs.returns.Election.{has_list, lands_of, parties_of}
-use Rattle.sl_stages.specs.meaning.Seating.{placed_on}
-use Rattle.sl_stages.proofs.meaning.ListPlaces.{length_by_list, by_list_at}
+use Rattle.sl_law_meaning.specs.declared.table.ListSeats.{ListSeats}
+use Rattle.sl_law_meaning.specs.returns.Election.{has_list, lands_of, parties_of}
+use Rattle.sl_law_meaning.specs.meaning.Seating.{placed_on}
+use Rattle.sl_law_meaning.proofs.meaning.ListPlaces.{length_by_list, by_list_at}
 use Rattle.sl_code_semantics.specs.Tables.{held_line}
 use Rattle.sl_table.proofs.Pieces.{kept_more, kept_same}
 use Rattle.sl_table.proofs.tables.push_lists.Goals as goal

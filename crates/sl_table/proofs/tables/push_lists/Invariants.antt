@@ -1,6 +1,6 @@
 use Rattle.std.proofs.Common.{◌≡◌, ◌++◌, map}
 use Rattle.std.specs.List.{filter, range_with_len}
-use Rattle.sl_stages.specs.returns.Election.{has_list}
+use Rattle.sl_law_meaning.specs.returns.Election.{has_list}
 use Rattle.sl_code_semantics.specs.Tables.{held_line}
 use Rattle.sl_table.proofs.tables.push_lists.Given as goal
 

@@ -3,9 +3,9 @@ use Rattle.std.specs.List.{zip}
 use Rattle.std.proofs.lemmas.Bool.{ne_eqb}
 use Rattle.std.proofs.lemmas.Option.{slice_get_within}
 use Rattle.std.proofs.lemmas.Slice.Zip.{length-zip}
-use Rattle.sl_stages.specs.declared.returns.Win.{Win}
-use Rattle.sl_stages.specs.declared.table.Placed.{Placed}
-use Rattle.sl_stages.specs.returns.Election.{lands_of, parties_of}
+use Rattle.sl_law_meaning.specs.declared.election.Win.{Win}
+use Rattle.sl_law_meaning.specs.declared.table.Placed.{Placed}
+use Rattle.sl_law_meaning.specs.returns.Election.{lands_of, parties_of}
 use Rattle.sl_count_texts.proofs.Counting.{sums_none, counts_one, counts_no, counts_all, count_le}
 use Rattle.sl_count_texts.proofs.Winners.{in_zip, pair_here}
 use Rattle.sl_count_texts.proofs.PartyWinners.{is_at}

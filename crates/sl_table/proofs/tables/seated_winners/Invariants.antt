@@ -1,6 +1,6 @@
 use Rattle.std.proofs.Common.{◌*◌}
 use Rattle.std.specs.List.{zip}
-use Rattle.sl_stages.specs.returns.Election.{lands_of, parties_of}
+use Rattle.sl_law_meaning.specs.returns.Election.{lands_of, parties_of}
 use Rattle.sl_count_texts.proofs.Counting.{Counts}
 use Rattle.sl_table.proofs.SeatedWinners.{counts_at}
 use Rattle.sl_table.proofs.tables.seated_winners.Given as goal

@@ -1,9 +1,9 @@
 use Rattle.std.proofs.Common.{◌∙◌, refl}
 use Rattle.std.proofs.lemmas.Result.{err_from_is_err_and}
-use Rattle.sl_stages.specs.book.Trees.{tree_of}
+use Rattle.sl_law_meaning.specs.book.Trees.{tree_of}
 use Rattle.sl_base_terms.proofs.Tests.{fails_first}
-use Rattle.sl_stages.specs.declared.book.Unit.TheVariants as unit
-use Rattle.sl_stages.specs.book.Typing.{column, expr_tests, type_of, sum_tests, pair_tests, split_tests, split_from_tests, grow_tests}
+use Rattle.sl_law_meaning.specs.declared.book.Unit.TheVariants as unit
+use Rattle.sl_law_meaning.specs.book.Typing.{column, expr_tests, type_of, sum_tests, pair_tests, split_tests, split_from_tests, grow_tests}
 use Rattle.sl_check.specs.inner.Known.{columns}
 use Rattle.sl_check.proofs.Failing.{fails_behind, fails_two, judges_two, fails_three, judges_three}
 use Rattle.sl_check.proofs.columns.Columns.+expr.Goals as goal

@@ -1,6 +1,6 @@
 -- Each call goes down the tree; `both` and `three` stand between an expression and its arguments.
 use Rattle.std.proofs.Common.{◌+◌, ◌*◌, max}
-use Rattle.sl_stages.specs.declared.book.Expr.{size-Expr}
+use Rattle.sl_law_meaning.specs.declared.book.Expr.{size-Expr}
 use Rattle.sl_check.proofs.columns.Columns.+expr.Given as goal
 
 abbrev pub decreases-expr_type : goal.decreases-expr_type

@@ -1,6 +1,6 @@
 -- The column is not among those after it: it is the first of the rest.
 use Rattle.std.proofs.Common.{◌≡◌, find, drop}
-use Rattle.sl_stages.specs.book.Typing.{is_named}
+use Rattle.sl_law_meaning.specs.book.Typing.{is_named}
 use Rattle.sl_check.specs.inner.Known.{columns}
 use Rattle.sl_check.proofs.columns.Columns.find.Given as goal
 

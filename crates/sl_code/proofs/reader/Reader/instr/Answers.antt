@@ -1,5 +1,5 @@
 use Rattle.std.proofs.Common.{[], ◌∷◌, inl, inr, refl, arith, rules, None, false}
-use Rattle.sl_ratio.specs.declared.method.Divisor.TheVariants as divisors
+use Rattle.sl_base_quotients.specs.declared.method.Divisor.TheVariants as divisors
 use Rattle.sl_code_instructions.specs.declared.instr.Instr.TheVariants.{Set, Mov, Add, Sub, Mul, Div, Rem, Max, Jmp, Jz, Jlt, Jnl, Get, Store, Zero, Input, House, Wparty, Fparty, Nparty, Fland, Nland, Fwin, Nwin, Table, Prio, Rest, Peers, Lot, Takelot, Emit, Given, Fault, Tie, Halt, At, Haltv, Weigh}
 use Rattle.sl_code_instructions.specs.declared.operand.EndFault.TheVariants as faults
 use Rattle.sl_code_instructions.specs.declared.operand.Entries.TheVariants as entries

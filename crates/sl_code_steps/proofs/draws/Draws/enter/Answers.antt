@@ -1,9 +1,9 @@
 -- The peers are the same where the entry is after them.
 use Rattle.std.proofs.Common.{◌∷◌, List, sym, subst, ◌∙◌}
 use Rattle.std.proofs.lemmas.List.Elements.{All-head, All-tail}
-use Rattle.sl_ratio.specs.declared.entry.Entry.{Entry}
-use Rattle.sl_ratio.specs.Quotient.{FitsRatio}
-use Rattle.sl_prio.specs.Prio.{peers}
+use Rattle.sl_base_quotients.specs.declared.entry.Entry.{Entry}
+use Rattle.sl_base_quotients.specs.Quotient.{FitsRatio}
+use Rattle.sl_base_rankings.specs.Peers.{peers}
 use Rattle.sl_prio.specs.inner.Marks.{IsPassed}
 use Rattle.sl_code_steps.proofs.drawing.Passing.{behind_passed, no_draws}
 use Rattle.sl_code_steps.proofs.draws.Draws.enter.Goals as goal

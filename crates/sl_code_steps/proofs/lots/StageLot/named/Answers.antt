@@ -3,8 +3,8 @@ use Rattle.std.proofs.Common.{◌≡◌, ◌<◌, ℕ, List, All, length, get_or
 use Rattle.std.proofs.lemmas.List.Elements.{All-get_or}
 use Rattle.std.specs.Prelude.{if◌then◌else◌}
 use Rattle.std.specs.Str.{bytes_eq}
-use Rattle.sl_stages.specs.declared.returns.Lot.{Lot}
-use Rattle.sl_stages.specs.returns.Election.{IsLot, lands_of, parties_of, wins_of}
+use Rattle.sl_law_meaning.specs.declared.election.Lot.{Lot}
+use Rattle.sl_law_meaning.specs.returns.Election.{IsLot, lands_of, parties_of, wins_of}
 use Rattle.sl_code_steps.specs.inner.Lots.{StageLots, with_lot}
 use Rattle.sl_code_steps.proofs.drawing.LotLists.{lots_next}
 use Rattle.sl_code_steps.proofs.lots.StageLot.named.Goals as goal

@@ -3,10 +3,10 @@ use Rattle.std.proofs.Common.{◌≡◌, ◌∷◌, ℕ, List, Some, slice_get, 
 use Rattle.std.proofs.lemmas.List.Elements.{All-cons}
 use Rattle.std.proofs.lemmas.List.Sorted.{IsPermutation-cons}
 use Rattle.std.specs.Option.{option_map}
-use Rattle.sl_ratio.specs.declared.entry.Entry.{Entry}
-use Rattle.sl_ratio.specs.Quotient.{FitsRatio}
+use Rattle.sl_base_quotients.specs.declared.entry.Entry.{Entry}
+use Rattle.sl_base_quotients.specs.Quotient.{FitsRatio}
 use Rattle.sl_prio.specs.inner.Marks.{IsPassed}
-use Rattle.sl_prio.proofs.LawProofs.{order_is_free}
+use Rattle.sl_base_rankings.proofs.LawProofs.{order_is_free}
 use Rattle.sl_code_steps.specs.declared.priority.TableKind.{TableKind}
 use Rattle.sl_code_steps.specs.inner.Tables.{FitsMark}
 use Rattle.sl_code_steps.specs.inner.Lots.{LotTable, lot_in}

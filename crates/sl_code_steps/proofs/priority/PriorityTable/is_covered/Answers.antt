@@ -1,6 +1,6 @@
 use Rattle.std.proofs.Common.{ap, ◌∙◌}
 use Rattle.std.specs.Prelude.{if◌then◌else◌}
-use Rattle.sl_prio.specs.Prio.{is_covered}
+use Rattle.sl_base_rankings.specs.Peers.{is_covered}
 use Rattle.sl_code_semantics.specs.Effects.{Goes, Jumps}
 use Rattle.sl_code_steps.specs.inner.Lots.{LotTable}
 use Rattle.sl_code_steps.proofs.Priorities.{covered_is, same_kept, same_on}

@@ -1,9 +1,9 @@
 -- The entry that is taken, and the others, which stay as they were ranked.
 use Rattle.std.proofs.Common.{refl, Option, IsSome, sym, ap, subst, ◌∙◌}
 use Rattle.std.specs.Option.{option_and_then}
-use Rattle.sl_ratio.specs.declared.entry.Entry.{Entry}
-use Rattle.sl_ratio.specs.Quotient.{FitsRatio}
-use Rattle.sl_prio.specs.Prio.{peers, top}
+use Rattle.sl_base_quotients.specs.declared.entry.Entry.{Entry}
+use Rattle.sl_base_quotients.specs.Quotient.{FitsRatio}
+use Rattle.sl_base_rankings.specs.Peers.{peers, top}
 use Rattle.sl_code_semantics.specs.State.{PriorityTable}
 use Rattle.sl_code_steps.specs.inner.Tables.{FitsMark}
 use Rattle.sl_code_steps.specs.inner.Lots.{LotTable}

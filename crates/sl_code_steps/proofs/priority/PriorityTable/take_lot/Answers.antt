@@ -1,11 +1,11 @@
 -- The entry that is taken, and the others, which stay as they were ranked.
 use Rattle.std.proofs.Common.{◌≡◌, Option, Some, IsSome, slice_get, sym, ap, subst, ◌∙◌}
 use Rattle.std.specs.Option.{option_and_then, option_map}
-use Rattle.sl_ratio.specs.declared.entry.Entry.{Entry}
-use Rattle.sl_ratio.specs.Quotient.{FitsRatio}
+use Rattle.sl_base_quotients.specs.declared.entry.Entry.{Entry}
+use Rattle.sl_base_quotients.specs.Quotient.{FitsRatio}
 use Rattle.sl_prio.specs.declared.prio.Drawn.{Drawn}
-use Rattle.sl_prio.specs.Prio.{peers, top}
-use Rattle.sl_prio.specs.Lot.{drawn}
+use Rattle.sl_base_rankings.specs.Peers.{peers, top}
+use Rattle.sl_base_rankings.specs.Lot.{drawn}
 use Rattle.sl_code_semantics.specs.Effects.{takes}
 use Rattle.sl_code_steps.specs.inner.Lots.{LotTable, lot_in}
 use Rattle.sl_code_steps.specs.inner.Tables.{FitsMark}

@@ -1,16 +1,16 @@
 -- Each peer is the top of what is left of the table.
 use Rattle.std.proofs.Common.{◌≡◌, ◌<◌, ◌∷◌, ◌++◌, [], length, Option, Some, All, IsSome, refl, sym, ap, subst, ◌∙◌, arith}
 use Rattle.std.proofs.lemmas.Option.{same_Some}
-use Rattle.sl_ratio.specs.declared.entry.Entry.{Entry}
-use Rattle.sl_ratio.specs.Quotient.{FitsRatio}
-use Rattle.sl_prio.specs.Prio.{peers}
-use Rattle.sl_stages.specs.declared.fault.Item.{Item}
+use Rattle.sl_base_quotients.specs.declared.entry.Entry.{Entry}
+use Rattle.sl_base_quotients.specs.Quotient.{FitsRatio}
+use Rattle.sl_base_rankings.specs.Peers.{peers}
+use Rattle.sl_law_meaning.specs.declared.fault.Item.{Item}
 use Rattle.sl_code_steps.specs.declared.priority.TableKind.{TableKind}
 use Rattle.sl_code_semantics.specs.Places.{item_of}
 use Rattle.sl_code_semantics.specs.Safe.{entries_in}
 use Rattle.sl_code_steps.specs.inner.Tables.{FitsMark}
 use Rattle.sl_code_steps.specs.inner.Lots.{LotTable}
-use Rattle.sl_prio.proofs.LawProofs.{order_is_free}
+use Rattle.sl_base_rankings.proofs.LawProofs.{order_is_free}
 use Rattle.sl_code_steps.proofs.Priorities.{same_kept, same_on, taken_fits}
 use Rattle.sl_code_steps.proofs.drawing.PeerLists.{top_left, peers_taken, rest_behind, one_more, range_held, peers_told, rest_told}
 use Rattle.sl_code_steps.proofs.drawing.Passing.{no_draws}

@@ -1,7 +1,7 @@
 -- What was taken is the front of the ranking, and the table has the rest.
 use Rattle.std.proofs.Common.{◌≡◌, ◌<◌, All, Some, map, take, drop}
-use Rattle.sl_ratio.specs.Quotient.{FitsRatio}
-use Rattle.sl_prio.specs.Ranking.{ranked}
+use Rattle.sl_base_quotients.specs.Quotient.{FitsRatio}
+use Rattle.sl_base_rankings.specs.Ranking.{ranked}
 use Rattle.sl_code_semantics.specs.Places.{item_of}
 use Rattle.sl_code_semantics.specs.Safe.{entries_in}
 use Rattle.sl_code_steps.specs.inner.Tables.{FitsMark}

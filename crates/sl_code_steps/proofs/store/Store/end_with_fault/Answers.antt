@@ -1,6 +1,6 @@
 -- The fault is of its kind.
 use Rattle.std.proofs.Common.{ap, ◌∙◌}
-use Rattle.sl_stages.specs.declared.fault.FaultKind.{FaultKind}
+use Rattle.sl_law_meaning.specs.declared.fault.FaultKind.{FaultKind}
 use Rattle.sl_code_semantics.specs.Effects.{faults}
 use Rattle.sl_code_steps.specs.inner.Stores.{state_of}
 use Rattle.sl_code_steps.proofs.store.Store.end_with_fault.Goals as goal

@@ -1,14 +1,14 @@
 -- The tie is of all peers, and its scope is not the table's.
 use Rattle.std.proofs.Common.{◌≡◌, ℕ, List, Option, IsSome, map, refl, sym, ap, subst, ◌∙◌}
-use Rattle.sl_stages.specs.declared.fault.FaultKind.{FaultKind}
-use Rattle.sl_stages.specs.declared.fault.FaultKind.TheVariants as fault
-use Rattle.sl_stages.specs.declared.fault.Item.{Item}
-use Rattle.sl_stages.specs.declared.fault.Scope.{Scope}
-use Rattle.sl_stages.specs.returns.Election.{Election}
+use Rattle.sl_law_meaning.specs.declared.fault.FaultKind.{FaultKind}
+use Rattle.sl_law_meaning.specs.declared.fault.FaultKind.TheVariants as fault
+use Rattle.sl_law_meaning.specs.declared.fault.Item.{Item}
+use Rattle.sl_law_meaning.specs.declared.fault.Scope.{Scope}
+use Rattle.sl_law_meaning.specs.returns.Election.{Election}
 use Rattle.sl_code_instructions.specs.declared.operand.ScopeKind.{ScopeKind}
 use Rattle.sl_code_instructions.specs.declared.operand.ScopeKind.TheVariants as kind
 use Rattle.sl_code_instructions.specs.Codes.{CountingCode}
-use Rattle.sl_prio.specs.Prio.{peers}
+use Rattle.sl_base_rankings.specs.Peers.{peers}
 use Rattle.sl_code_semantics.specs.State.{State, PriorityTable}
 use Rattle.sl_code_semantics.specs.Places.{item_of, scope_at}
 use Rattle.sl_code_semantics.specs.Effects.{faults}

@@ -1,9 +1,9 @@
 -- Everything is 0 or unset, and there is a cell for each place.
 use Rattle.std.proofs.Common.{◌≡◌, ℕ, List, [], length, map, get_or, replicate, ap, ◌∙◌}
 use Rattle.std.proofs.lemmas.List.{length-replicate}
-use Rattle.sl_stages.specs.declared.table.Mark.TheVariants as mark
-use Rattle.sl_stages.specs.declared.table.Placed.{Placed}
-use Rattle.sl_stages.specs.declared.table.Placed.TheVariants as placed
+use Rattle.sl_law_meaning.specs.declared.table.Mark.TheVariants as mark
+use Rattle.sl_law_meaning.specs.declared.table.Placed.{Placed}
+use Rattle.sl_law_meaning.specs.declared.table.Placed.TheVariants as placed
 use Rattle.sl_code_semantics.specs.declared.known.TheConstants.{REGISTERS}
 use Rattle.sl_code_steps.specs.inner.Lots.{LotTable}
 use Rattle.sl_code_steps.specs.inner.Positions.{Position}

@@ -1,6 +1,6 @@
 -- The instructions whose methods see less than the whole code and the returns.
-use Rattle.std.proofs.Common.{sym, ◌∙◌}
-use Rattle.sl_stages.specs.declared.table.Mark.TheVariants as mark
+use Rattle.std.proofs.Common.{ap, sym, ◌∙◌}
+use Rattle.sl_law_meaning.specs.declared.table.Mark.TheVariants as mark
 use Rattle.sl_code_semantics.specs.Effects.{stage_of}
 use Rattle.sl_code_semantics.specs.Places.{scope_at, index_at, item_of}
 use Rattle.sl_code_steps.specs.inner.Stores.{state_of}
@@ -60,3 +60,9 @@ returns-in-Dropped-records-clause-follows g c =
     let dropped = sym c.records-in-Given.ensures ∙ c.in-Dropped-records.is in
     let case = rw w.is at c.requires.step.case in
     rw (w.is, dropped) (recorded c.args.code.now e s (rw dropped at c.requires.records) w.stage w.scope (s.registers w.number) 0 mark.Given case)
+
+pub take_top-effect-requires-clause-parties : goal.take_top-effect-requires-clause-parties
+take_top-effect-requires-clause-parties g c = ap (λ z. z.parties) c.requires.sizes
+
+pub take_drawn-effect-requires-clause-parties : goal.take_drawn-effect-requires-clause-parties
+take_drawn-effect-requires-clause-parties g c = ap (λ z. z.parties) c.requires.sizes

@@ -1,6 +1,6 @@
 -- The peer that the stage's lot draws is taken.
 use Rattle.std.proofs.Common.{List, slice_get, sym, ap, ◌∙◌}
-use Rattle.sl_prio.specs.Lot.{drawn}
+use Rattle.sl_base_rankings.specs.Lot.{drawn}
 use Rattle.sl_code_semantics.specs.Effects.{name_of, takes}
 use Rattle.sl_code_steps.specs.inner.Lots.{StageLots}
 use Rattle.sl_code_steps.specs.inner.Stores.{state_of}

@@ -1,7 +1,7 @@
 use Rattle.std.proofs.Common.{◌≡◌, ◌+◌, Some, refl, sym, ap, subst, ◌∙◌, arith}
 use Rattle.std.proofs.lemmas.Result.{IfOk-from_err}
-use Rattle.sl_stages.specs.book.Trees.{tree_of}
-use Rattle.sl_stages.specs.book.Typing.{type_of}
+use Rattle.sl_law_meaning.specs.book.Trees.{tree_of}
+use Rattle.sl_law_meaning.specs.book.Typing.{type_of}
 use Rattle.std.specs.Prelude.{[], IfOk, option_map}
 use Rattle.sl_compile_pieces.specs.exprs.Pieces.{slot_of, split_piece, grow_piece}
 use Rattle.sl_blocks.specs.PlanBlocks.{AreBlocks, HasRoom}

@@ -1,7 +1,7 @@
 -- Each call goes down the tree; `both` stands between an expression and its arguments.
 use Rattle.std.proofs.Common.{◌+◌, ◌*◌, max}
-use Rattle.sl_stages.specs.book.Limits.{depth_of}
-use Rattle.sl_stages.specs.book.Trees.{tree_of}
+use Rattle.sl_law_meaning.specs.book.Limits.{depth_of}
+use Rattle.sl_law_meaning.specs.book.Trees.{tree_of}
 use Rattle.sl_compile.proofs.exprs.Site.+expr.Given as goal
 
 abbrev pub decreases-expr : goal.decreases-expr

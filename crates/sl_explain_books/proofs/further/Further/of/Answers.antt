@@ -1,8 +1,8 @@
 -- The faults are listed one after another, until nothing is refused.
 use Rattle.std.proofs.Common.{◌≡◌, [], ◌∷◌, ◌++◌, Option, None, Some, arith, refl, true}
 use Rattle.std.specs.Prelude.{is_none}
-use Rattle.sl_stages.specs.declared.check_fault.CheckFault.{CheckFault}
-use Rattle.sl_stages.specs.book.Books.{book_of}
+use Rattle.sl_law_meaning.specs.declared.check_fault.CheckFault.{CheckFault}
+use Rattle.sl_law_meaning.specs.book.Books.{book_of}
 use Rattle.sl_explain_books.specs.Further.{none, one_more}
 use Rattle.sl_explain_books.proofs.further.Further.of.Goals as goal
 

@@ -1,6 +1,6 @@
 -- One stage more is left, or left out.
 use Rattle.std.proofs.Common.{◌∙◌, add-one, map}
-use Rattle.sl_stages.specs.book.Trees.{stage_of}
+use Rattle.sl_law_meaning.specs.book.Trees.{stage_of}
 use Rattle.sl_explain_books.proofs.LeftOut.{left_more, lost_more}
 use Rattle.sl_explain_books.proofs.left_out.Stages.without.Goals as goal
 

@@ -1,6 +1,6 @@
 -- The stages so far are left, or their names are lost.
 use Rattle.std.proofs.Common.{◌≡◌, [], ◌++◌, drop, map}
-use Rattle.sl_stages.specs.book.Trees.{stage_of}
+use Rattle.sl_law_meaning.specs.book.Trees.{stage_of}
 use Rattle.sl_explain_books.specs.Further.{names_lost, stages_left}
 use Rattle.sl_explain_books.proofs.left_out.Stages.without.Given as goal
 

@@ -1,6 +1,6 @@
 -- The last stage so far that begins no later.
 use Rattle.std.proofs.Common.{◌≡◌, None, drop, map, option_map}
-use Rattle.sl_stages.specs.book.Trees.{stage_of}
+use Rattle.sl_law_meaning.specs.book.Trees.{stage_of}
 use Rattle.sl_explain_books.specs.Further.{stage_at}
 use Rattle.sl_explain_books.proofs.tests.names.around.Given as goal
 

@@ -1,5 +1,5 @@
 use Rattle.std.proofs.Common.{drop, map}
-use Rattle.sl_stages.specs.book.Trees.{stage_of}
+use Rattle.sl_law_meaning.specs.book.Trees.{stage_of}
 use Rattle.sl_parse.specs.inner.Views.{head_tree}
 use Rattle.sl_parse.proofs.TokenNumbers.{small_book}
 use Rattle.sl_parse.proofs.token.Parser.book.Goals as goal

@@ -1,7 +1,7 @@
 use Rattle.std.proofs.Common.{◌≡◌, ◌+◌, ◌++◌, ◌∷◌, [], map, drop, vec_len, sym, arith}
 use Rattle.std.proofs.lemmas.Result.{err_from_is_err_and}
 use Rattle.std.proofs.lemmas.List.{map_push}
-use Rattle.sl_stages.specs.book.Trees.{stage_of}
+use Rattle.sl_law_meaning.specs.book.Trees.{stage_of}
 use Rattle.sl_parse.specs.Parsing.{limits}
 use Rattle.sl_parse.proofs.Loop.{goes_on, stops_in, stops_full, is_done}
 use Rattle.sl_parse.proofs.OneTree.{read_within}

@@ -1,5 +1,5 @@
 use Rattle.std.proofs.Common.{◌≡◌, ◌-◌, ◌≤◌, map, drop, vec_len}
-use Rattle.sl_stages.specs.book.Trees.{stage_of}
+use Rattle.sl_law_meaning.specs.book.Trees.{stage_of}
 use Rattle.sl_parse.specs.Parsing.{limits}
 use Rattle.sl_parse.specs.inner.Reading.{read_stages}
 use Rattle.sl_parse.proofs.Loop.{with_front}

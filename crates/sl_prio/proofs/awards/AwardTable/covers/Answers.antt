@@ -1,7 +1,7 @@
 use Rattle.std.proofs.Common.{sym, ap, ◌∙◌}
-use Rattle.sl_prio.specs.Prio.{is_covered}
+use Rattle.sl_base_rankings.specs.Peers.{is_covered}
 use Rattle.sl_prio.specs.inner.Taken.{held_in}
-use Rattle.sl_prio.proofs.LawProofs.{order_is_free}
+use Rattle.sl_base_rankings.proofs.LawProofs.{order_is_free}
 use Rattle.sl_prio.proofs.awards.AwardTable.covers.Goals as goal
 
 pub returns-clause-value : goal.returns-clause-value

@@ -1,8 +1,8 @@
 use Rattle.std.proofs.Common.{List, length, sym, ap, ◌∙◌}
-use Rattle.sl_ratio.specs.declared.entry.Entry.{Entry}
-use Rattle.sl_prio.specs.Prio.{peers}
+use Rattle.sl_base_quotients.specs.declared.entry.Entry.{Entry}
+use Rattle.sl_base_rankings.specs.Peers.{peers}
 use Rattle.sl_prio.specs.inner.Taken.{held_in}
-use Rattle.sl_prio.proofs.LawProofs.{order_is_free}
+use Rattle.sl_base_rankings.proofs.LawProofs.{order_is_free}
 use Rattle.sl_prio.proofs.awards.AwardTable.peers.Goals as goal
 
 pub returns-clause-value : goal.returns-clause-value

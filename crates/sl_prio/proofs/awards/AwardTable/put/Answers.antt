@@ -1,5 +1,5 @@
 use Rattle.std.proofs.Common.{◌≡◌, ◌∷◌, Bool, List, IsPermutation, subst, sym, true}
-use Rattle.sl_ratio.specs.declared.entry.Entry.{Entry}
+use Rattle.sl_base_quotients.specs.declared.entry.Entry.{Entry}
 use Rattle.sl_prio.specs.inner.Taken.{held_in}
 use Rattle.sl_prio.proofs.TakenTops.{alone_replaced}
 use Rattle.sl_prio.proofs.awards.AwardTable.put.Goals as goal

@@ -1,7 +1,7 @@
 use Rattle.std.proofs.Common.{◌∷◌, Bool, List, IfSome, IfNone, IsPermutation, sym, subst, ◌∙◌}
-use Rattle.sl_ratio.specs.declared.entry.Entry.{Entry}
+use Rattle.sl_base_quotients.specs.declared.entry.Entry.{Entry}
 use Rattle.sl_prio.specs.inner.Taken.{held_in}
-use Rattle.sl_prio.proofs.LawProofs.{order_is_free}
+use Rattle.sl_base_rankings.proofs.LawProofs.{order_is_free}
 use Rattle.sl_prio.proofs.TakenTops.{none_alike, none_stays, rest_alike, top_stays}
 use Rattle.sl_prio.proofs.awards.AwardTable.take.Goals as goal
 

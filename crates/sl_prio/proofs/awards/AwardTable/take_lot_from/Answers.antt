@@ -1,10 +1,10 @@
 use Rattle.std.proofs.Common.{List, IsPermutation, sym, ap, subst, ◌∙◌}
-use Rattle.sl_ratio.specs.declared.entry.Entry.{Entry}
-use Rattle.sl_prio.specs.Lot.{drawn}
-use Rattle.sl_prio.specs.Prio.{peers}
+use Rattle.sl_base_quotients.specs.declared.entry.Entry.{Entry}
+use Rattle.sl_base_rankings.specs.Lot.{drawn}
+use Rattle.sl_base_rankings.specs.Peers.{peers}
 use Rattle.sl_prio.specs.inner.Marks.{IsPassed}
 use Rattle.sl_prio.specs.inner.Taken.{held_in}
-use Rattle.sl_prio.proofs.LawProofs.{order_is_free}
+use Rattle.sl_base_rankings.proofs.LawProofs.{order_is_free}
 use Rattle.sl_prio.specs.declared.prio.Drawn.{Drawn}
 use Rattle.sl_prio.proofs.TakenTops.{none_alike, rest_alike}
 use Rattle.sl_prio.proofs.awards.AwardTable.take_lot_from.Goals as goal

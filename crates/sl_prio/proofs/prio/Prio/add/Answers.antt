@@ -1,11 +1,11 @@
 use Rattle.std.proofs.Common.{◌≡◌, Bool, List, [], ◌∷◌, ◌++◌, IsPermutation, sym, subst, ◌∙◌, arith}
 use Rattle.std.proofs.lemmas.List.Elements.{All-push}
 use Rattle.std.proofs.lemmas.List.Sorted.{IsPermutation-to_front, IsPermutation-sym, IsPermutation-trans}
-use Rattle.sl_ratio.specs.Quotient.{FitsRatio}
-use Rattle.sl_ratio.specs.declared.entry.Entry.{Entry}
-use Rattle.sl_prio.specs.Prio.{peers}
+use Rattle.sl_base_quotients.specs.Quotient.{FitsRatio}
+use Rattle.sl_base_quotients.specs.declared.entry.Entry.{Entry}
+use Rattle.sl_base_rankings.specs.Peers.{peers}
 use Rattle.sl_prio.specs.inner.Heap.{AreCounted, IsNewPeer}
-use Rattle.sl_prio.proofs.LawProofs.{order_is_free}
+use Rattle.sl_base_rankings.proofs.LawProofs.{order_is_free}
 use Rattle.sl_prio.proofs.Gaps.{joins}
 use Rattle.sl_prio.proofs.Heaps.{given_back, kept_by}
 use Rattle.sl_prio.proofs.PeerCounts.{joined_counted}

@@ -1,6 +1,6 @@
 use Rattle.std.proofs.Common.{List, slice_get, sym, ap, ◌∙◌}
-use Rattle.sl_ratio.specs.declared.entry.Entry.{Entry}
-use Rattle.sl_prio.specs.Prio.{is_covered}
+use Rattle.sl_base_quotients.specs.declared.entry.Entry.{Entry}
+use Rattle.sl_base_rankings.specs.Peers.{is_covered}
 use Rattle.sl_prio.specs.inner.Heap.{are_named, peers_under}
 use Rattle.sl_prio.proofs.Seen.{seen_named}
 use Rattle.sl_prio.proofs.prio.Prio.covers.Goals as goal

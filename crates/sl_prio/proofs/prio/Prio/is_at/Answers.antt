@@ -1,6 +1,6 @@
 use Rattle.std.proofs.Common.{◌≤◌, sym, ◌∙◌, arith}
 use Rattle.std.proofs.lemmas.Bool.{leb-true, ltb-true, le-leb, lt-ltb, true≢false}
-use Rattle.sl_prio.proofs.Tables.{peers_greater, stands, place_of, place-peer}
+use Rattle.sl_base_rankings.proofs.Tables.{peers_greater, stands, place_of, place-peer}
 use Rattle.sl_prio.proofs.prio.Prio.is_at.Goals as goal
 use Rattle.sl_prio.proofs.prio.Prio.is_at.Goals.{then-is_peer, else-is_peer}
 

@@ -3,10 +3,10 @@ use Rattle.std.specs.List.{filter}
 use Rattle.std.proofs.lemmas.Iterator.{YieldsList-from_slice, first_from_find}
 use Rattle.std.proofs.lemmas.Iterator.Consumers.{YieldsList-from_copied}
 use borrow.Author.Tests.{tests}
-use Rattle.sl_ratio.specs.declared.entry.Entry.{Entry}
-use Rattle.sl_prio.specs.Ranking.{ranked}
-use Rattle.sl_prio.specs.Prio.{has_quotient_of}
-use Rattle.sl_prio.proofs.Tables.{peers-at_top, member-from_find}
+use Rattle.sl_base_quotients.specs.declared.entry.Entry.{Entry}
+use Rattle.sl_base_rankings.specs.Ranking.{ranked}
+use Rattle.sl_base_rankings.specs.Peers.{has_quotient_of}
+use Rattle.sl_base_rankings.proofs.Tables.{peers-at_top, member-from_find}
 use Rattle.sl_prio.proofs.prio.Prio.member.Goals as goal
 
 pub returns : goal.returns

@@ -4,9 +4,9 @@ use Rattle.std.proofs.lemmas.Iterator.{YieldsList-from_slice}
 use Rattle.std.proofs.lemmas.Iterator.Consumers.{YieldsList-from_filter, count_from_yields_List}
 use Rattle.std.proofs.lemmas.List.Sums.{length-filter}
 use borrow.Author.Tests.{tests}
-use Rattle.sl_ratio.specs.declared.entry.Entry.{Entry}
-use Rattle.sl_ratio.specs.Entry.{entry_cmp}
-use Rattle.sl_prio.specs.Prio.{has_quotient_of}
+use Rattle.sl_base_quotients.specs.declared.entry.Entry.{Entry}
+use Rattle.sl_base_quotients.specs.Entry.{entry_cmp}
+use Rattle.sl_base_rankings.specs.Peers.{has_quotient_of}
 use Rattle.sl_prio.proofs.prio.Prio.peers_from.Goals as goal
 
 pub returns : goal.returns

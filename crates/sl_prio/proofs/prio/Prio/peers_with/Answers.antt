@@ -1,8 +1,8 @@
 use Rattle.std.proofs.Common.{◌≡◌, ◌+◌, ◌*◌, ◌∷◌, List, Some, slice_get, sym, ap, subst, ◌∙◌, arith}
 use Rattle.std.specs.Cmp.{nat_cmp_is}
 use Rattle.std.specs.declared.cmp.Ordering.TheVariants.{Less, Equal, Greater}
-use Rattle.sl_ratio.specs.declared.entry.Entry.{Entry}
-use Rattle.sl_prio.specs.Prio.{peers, top}
+use Rattle.sl_base_quotients.specs.declared.entry.Entry.{Entry}
+use Rattle.sl_base_rankings.specs.Peers.{peers, top}
 use Rattle.sl_prio.specs.inner.Heap.{IsNewPeer}
 use Rattle.sl_prio.proofs.Heaps.{top_at_first}
 use Rattle.sl_prio.proofs.PeerCounts.{new_alike, new_greater, passed, peers_at_most}

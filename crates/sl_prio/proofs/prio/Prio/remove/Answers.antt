@@ -1,6 +1,6 @@
 use Rattle.std.proofs.Common.{◌∷◌, Bool, List, IsPermutation, get_or, Contains, refl, sym, subst, arith}
-use Rattle.sl_ratio.specs.declared.entry.Entry.{Entry}
-use Rattle.sl_prio.specs.Prio.{peers}
+use Rattle.sl_base_quotients.specs.declared.entry.Entry.{Entry}
+use Rattle.sl_base_rankings.specs.Peers.{peers}
 use Rattle.sl_prio.specs.inner.Heap.{AreCounted, IsKept}
 use Rattle.sl_prio.proofs.Heaps.{given_back, kept_after}
 use Rattle.sl_prio.proofs.PeerCounts.{left_counted}

@@ -1,6 +1,6 @@
 use Rattle.std.proofs.Common.{◌∷◌, List, IfSome, IsPermutation, set, sym, subst, ◌∙◌, arith}
-use Rattle.sl_ratio.specs.declared.entry.Entry.{Entry}
-use Rattle.sl_prio.specs.Prio.{top, peers}
+use Rattle.sl_base_quotients.specs.declared.entry.Entry.{Entry}
+use Rattle.sl_base_rankings.specs.Peers.{top, peers}
 use Rattle.sl_prio.specs.inner.Heap.{AreCounted, IsKept}
 use Rattle.sl_prio.proofs.Heaps.{given_back}
 use Rattle.sl_prio.proofs.TakenTops.{counted_again, first_replaced, kept_replaced}

@@ -1,7 +1,7 @@
 use Rattle.std.proofs.Common.{◌<◌, List, get_or, length, sym, ap, subst, arith}
 use Rattle.std.proofs.lemmas.List.{get_or_default}
 use borrow.Author.Tests.{tests}
-use Rattle.sl_ratio.specs.declared.entry.Entry.{Entry}
+use Rattle.sl_base_quotients.specs.declared.entry.Entry.{Entry}
 use Rattle.sl_prio.specs.inner.Heap.{IsHeap}
 use Rattle.sl_prio.proofs.Heaps.{top_first}
 use Rattle.sl_prio.proofs.PeerCounts.{first_is_peer}

@@ -1,12 +1,12 @@
 use Rattle.std.proofs.Common.{◌≡◌, ◌<◌, ◌≤◌, Bool, List, Some, get_or, length, nat_eq, slice_get, Contains, sym, ap, subst, ◌∙◌, arith}
 use Rattle.std.proofs.lemmas.List.Elements.{Contains-get_or}
 use Rattle.std.proofs.lemmas.Option.{get_or_from_slice_get}
-use Rattle.sl_ratio.specs.declared.entry.Entry.{Entry}
-use Rattle.sl_prio.specs.Lot.{drawn, place_in_lot}
-use Rattle.sl_prio.specs.Prio.{peers}
+use Rattle.sl_base_quotients.specs.declared.entry.Entry.{Entry}
+use Rattle.sl_base_rankings.specs.Lot.{drawn, place_in_lot}
+use Rattle.sl_base_rankings.specs.Peers.{peers}
 use Rattle.sl_prio.specs.inner.Heap.{IsDrawnOf, IsDrawnFrom, peers_under}
 use Rattle.sl_prio.specs.inner.Marks.{AreApart, HaveMarks, IsPassed}
-use Rattle.sl_prio.proofs.Finding.{All-at}
+use Rattle.sl_base_rankings.proofs.Finding.{All-at}
 use Rattle.sl_prio.proofs.Heaps.{given_back}
 use Rattle.sl_prio.proofs.PeerCounts.{left_peers}
 use Rattle.sl_prio.proofs.Seen.{seen_among, seen_counts, seen_drawn, seen_peer, seen_under}

@@ -1,6 +1,6 @@
 use Rattle.std.proofs.Common.{◌∙◌, List, ap, slice_get}
-use Rattle.sl_ratio.specs.declared.entry.Entry.{Entry}
-use Rattle.sl_prio.specs.Prio.{top}
+use Rattle.sl_base_quotients.specs.declared.entry.Entry.{Entry}
+use Rattle.sl_base_rankings.specs.Peers.{top}
 use Rattle.sl_prio.proofs.Heaps.{top_at_first}
 use Rattle.sl_prio.proofs.prio.Prio.top.Goals as goal
 

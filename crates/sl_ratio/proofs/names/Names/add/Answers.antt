@@ -1,6 +1,6 @@
 use Rattle.std.proofs.Common.{◌≡◌, List, ℕ, [], ◌∷◌, ◌++◌, None, map, ap, sym, subst, ◌∙◌}
-use Rattle.sl_ratio.specs.Names.{NameList, IsNameList, name_fault}
-use Rattle.sl_ratio.proofs.NameLists.{joins, with_name, map-inserted}
+use Rattle.sl_base_quotients.specs.Names.{NameList, IsNameList, name_fault}
+use Rattle.sl_base_quotients.proofs.NameLists.{joins, with_name, map-inserted}
 use Rattle.sl_ratio.proofs.names.Names.add.Goals as goal
 use Rattle.sl_ratio.proofs.names.Names.add.Goals.{In-Ok-insert}
 

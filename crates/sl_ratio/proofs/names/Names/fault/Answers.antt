@@ -1,9 +1,9 @@
 use Rattle.std.proofs.Common.{◌≡◌, ◌<◌, ◌≤◌, length, map, Some, None, sym, subst, ◌∙◌, arith}
 use Rattle.std.proofs.lemmas.List.{length-map}
 use Rattle.std.specs.Str.{bytes_eq}
-use Rattle.sl_ratio.specs.declared.names.NameFault.TheVariants.{Twice, Full}
-use Rattle.sl_ratio.specs.Names.{NameList, name_fault}
-use Rattle.sl_ratio.proofs.NameLists.{list_any-map, is_twice, is_full, is_free}
+use Rattle.sl_base_quotients.specs.declared.spelling.NameFault.TheVariants.{Twice, Full}
+use Rattle.sl_base_quotients.specs.Names.{NameList, name_fault}
+use Rattle.sl_base_quotients.proofs.NameLists.{list_any-map, is_twice, is_full, is_free}
 use Rattle.sl_ratio.proofs.names.Names.fault.Goals as goal
 
 pub returns-then-contains : goal.returns-then-contains

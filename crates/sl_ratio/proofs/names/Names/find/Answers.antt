@@ -1,7 +1,7 @@
 use Rattle.std.proofs.Common.{◌≡◌, sym, subst, ◌∙◌}
 use Rattle.std.specs.Str.{bytes_eq}
-use Rattle.sl_ratio.specs.Names.{NameList, number_of}
-use Rattle.sl_ratio.proofs.NameLists.{position-map, number_stands, number_lacks}
+use Rattle.sl_base_quotients.specs.Names.{NameList, number_of}
+use Rattle.sl_base_quotients.proofs.NameLists.{position-map, number_stands, number_lacks}
 use Rattle.sl_ratio.proofs.names.Names.find.Goals as goal
 
 pub returns-clause-number : goal.returns-clause-number

@@ -1,7 +1,7 @@
 use Rattle.std.proofs.Common.{◌≡◌, List, ℕ, map, slice_get, Some, IsTrue, ap, sym, subst, ◌∙◌}
 use Rattle.std.specs.Option.{option_map}
 use Rattle.std.proofs.lemmas.Option.{slice_get-map, slice_get_within, get_or_from_slice_get}
-use Rattle.sl_ratio.specs.Names.{is_name}
+use Rattle.sl_base_quotients.specs.Names.{is_name}
 use Rattle.sl_ratio.proofs.names.Names.name.Goals as goal
 
 pub returns-clause-spelled : goal.returns-clause-spelled

@@ -1,5 +1,5 @@
 use Rattle.std.proofs.Common.{arith}
-use Rattle.sl_stages.specs.returns.Facts.{by_party}
+use Rattle.sl_law_meaning.specs.returns.Facts.{by_party}
 use Rattle.sl_report_parties.specs.Cells.{list_cell}
 use Rattle.sl_report_parties.proofs.Steps.{pieces_more, at_last}
 use Rattle.std.specs.List.{flat_map}

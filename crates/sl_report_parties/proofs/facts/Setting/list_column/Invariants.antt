@@ -1,6 +1,6 @@
 use Rattle.std.proofs.Common.{◌≡◌}
 use Rattle.std.specs.List.{range_with_len, flat_map}
-use Rattle.sl_stages.specs.returns.Facts.{by_party}
+use Rattle.sl_law_meaning.specs.returns.Facts.{by_party}
 use Rattle.sl_report_parties.specs.Cells.{list_cell}
 use Rattle.sl_report_parties.proofs.facts.Setting.list_column.Given as goal
 

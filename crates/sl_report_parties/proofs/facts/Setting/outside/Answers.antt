@@ -1,5 +1,5 @@
 use Rattle.std.proofs.Common.{arith, count_by}
-use Rattle.sl_stages.specs.returns.Election.{IsWin, lands_of, parties_of}
+use Rattle.sl_law_meaning.specs.returns.Election.{IsWin, lands_of, parties_of}
 use Rattle.sl_report_parties.specs.Cells.{is_outside}
 use Rattle.sl_report_parties.proofs.Steps.{all_at, count_next, one_if_le, at_end}
 use Rattle.sl_report_parties.proofs.facts.Setting.outside.Goals as goal

@@ -1,7 +1,7 @@
 -- The returns, where nothing stands against them.
 use Rattle.std.proofs.Common.{◌≡◌, Option, Some, None, Result, Ok, Err, IfErr, IfSome, OnOk, ap, sym, ◌∙◌}
 use Rattle.std.specs.Result.{result_and}
-use Rattle.sl_stages.specs.returns.Election.{Election}
+use Rattle.sl_law_meaning.specs.returns.Election.{Election}
 use Rattle.sl_returns.specs.declared.fault.ReturnsFault.{ReturnsFault}
 use Rattle.sl_returns.proofs.builder.ReturnsBuilder.finish.Goals as goal
 

@@ -1,6 +1,6 @@
 -- The key goes last.
 use Rattle.std.proofs.Common.{◌≡◌, false, List, [], ◌∷◌, ◌++◌, map, refl, ap, sym, subst, ◌∙◌}
-use Rattle.sl_stages.specs.declared.returns.Lot.{Lot}
+use Rattle.sl_law_meaning.specs.declared.election.Lot.{Lot}
 use Rattle.sl_returns.specs.declared.told.LotKey.{LotKey}
 use Rattle.sl_returns.specs.Tests.{has_lot}
 use Rattle.sl_returns.specs.inner.Lots.{lot_told}

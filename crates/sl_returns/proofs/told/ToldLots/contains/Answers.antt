@@ -1,6 +1,6 @@
 -- The lots are those that the keys stand for.
 use Rattle.std.proofs.Common.{List, ap, sym, ◌∙◌}
-use Rattle.sl_stages.specs.declared.returns.Lot.{Lot}
+use Rattle.sl_law_meaning.specs.declared.election.Lot.{Lot}
 use Rattle.sl_returns.specs.Tests.{has_lot}
 use Rattle.sl_returns.specs.inner.Lots.{lot_told}
 use Rattle.sl_returns.proofs.ToldLots.{found}

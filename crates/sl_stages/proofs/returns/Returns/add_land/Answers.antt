@@ -1,11 +1,11 @@
 -- The returns with a Land more.
 use Rattle.std.proofs.Common.{◌≡◌, ◌++◌, ◌∷◌, [], List, ℕ, None, map, replicate, ap, sym, subst, ◌∙◌}
 use Rattle.std.proofs.lemmas.List.{map_push}
-use Rattle.sl_ratio.specs.Names.{name_fault}
-use Rattle.sl_ratio.specs.declared.limits.TheConstants.{MAX_LANDS, MAX_PARTIES}
-use Rattle.sl_stages.specs.returns.Election.{Election, IsElection, with_land}
+use Rattle.sl_base_quotients.specs.Names.{name_fault}
+use Rattle.sl_base_quotients.specs.declared.limits.TheConstants.{MAX_LANDS, MAX_PARTIES}
+use Rattle.sl_law_meaning.specs.returns.Election.{Election, IsElection, with_land}
 use Rattle.sl_stages.specs.inner.Kept.{election_of}
-use Rattle.sl_stages.proofs.Elections.{is_with_land, is_spelled}
+use Rattle.sl_law_meaning.proofs.Elections.{is_with_land, is_spelled}
 use Rattle.sl_stages.proofs.returns.Returns.add_land.Goals as goal
 use Rattle.sl_stages.proofs.returns.Returns.add_land.Goals.{After-put-3}
 

@@ -2,10 +2,10 @@
 use Rattle.std.proofs.Common.{◌≡◌, ◌<◌, List, Option, None, length, ap, sym, subst, ◌∙◌, arith}
 use Rattle.std.proofs.lemmas.List.{length-map}
 use Rattle.std.proofs.lemmas.Option.{none-some}
-use Rattle.sl_stages.specs.declared.returns.ListVotes.{ListVotes}
-use Rattle.sl_stages.specs.returns.Election.{Election, IsElection, list_at, with_list}
+use Rattle.sl_law_meaning.specs.declared.election.ListVotes.{ListVotes}
+use Rattle.sl_law_meaning.specs.returns.Election.{Election, IsElection, list_at, with_list}
 use Rattle.sl_stages.specs.inner.Kept.{election_of}
-use Rattle.sl_stages.proofs.Elections.{cell_within, is_with_list, list_told}
+use Rattle.sl_law_meaning.proofs.Elections.{cell_within, is_with_list, list_told}
 use Rattle.sl_stages.proofs.returns.Returns.add_list.Goals as goal
 use Rattle.sl_stages.proofs.returns.Returns.add_list.Goals.{After-write_cell}
 

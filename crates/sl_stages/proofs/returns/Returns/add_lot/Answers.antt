@@ -1,11 +1,11 @@
 -- The returns with a lot more.
 use Rattle.std.proofs.Common.{◌≡◌, ◌<◌, ◌++◌, ◌∷◌, [], None, length, rules, ap, sym, subst, ◌∙◌}
-use Rattle.sl_ratio.specs.Names.{spelling_fault}
-use Rattle.sl_stages.specs.declared.limits.TheConstants.{MAX_LOTS}
-use Rattle.sl_stages.specs.declared.returns.Lot.{Lot}
-use Rattle.sl_stages.specs.returns.Election.{Election, IsElection, IsLot, with_lot}
+use Rattle.sl_base_quotients.specs.Names.{spelling_fault}
+use Rattle.sl_law_meaning.specs.declared.limits.TheConstants.{MAX_LOTS}
+use Rattle.sl_law_meaning.specs.declared.election.Lot.{Lot}
+use Rattle.sl_law_meaning.specs.returns.Election.{Election, IsElection, IsLot, with_lot}
 use Rattle.sl_stages.specs.inner.Kept.{election_of}
-use Rattle.sl_stages.proofs.Elections.{is_with_lot}
+use Rattle.sl_law_meaning.proofs.Elections.{is_with_lot}
 use Rattle.sl_stages.proofs.returns.Returns.add_lot.Goals as goal
 use Rattle.sl_stages.proofs.returns.Returns.add_lot.Goals.{After-put}
 

@@ -1,10 +1,10 @@
 -- The returns with a party more.
 use Rattle.std.proofs.Common.{◌≡◌, ◌++◌, ◌∷◌, [], List, ℕ, None, ap, sym, subst, ◌∙◌}
-use Rattle.sl_ratio.specs.Names.{name_fault}
-use Rattle.sl_ratio.specs.declared.limits.TheConstants.{MAX_PARTIES}
-use Rattle.sl_stages.specs.returns.Election.{Election, IsElection, with_party}
+use Rattle.sl_base_quotients.specs.Names.{name_fault}
+use Rattle.sl_base_quotients.specs.declared.limits.TheConstants.{MAX_PARTIES}
+use Rattle.sl_law_meaning.specs.returns.Election.{Election, IsElection, with_party}
 use Rattle.sl_stages.specs.inner.Kept.{election_of}
-use Rattle.sl_stages.proofs.Elections.{is_with_party, is_spelled}
+use Rattle.sl_law_meaning.proofs.Elections.{is_with_party, is_spelled}
 use Rattle.sl_stages.proofs.returns.Returns.add_party.Goals as goal
 use Rattle.sl_stages.proofs.returns.Returns.add_party.Goals.{After-put-2}
 

@@ -1,11 +1,11 @@
 -- The returns with a winner more.
 use Rattle.std.proofs.Common.{◌≡◌, ◌++◌, ◌∷◌, [], List, ℕ, None, length, rules, ap, sym, subst, ◌∙◌}
-use Rattle.sl_ratio.specs.Names.{name_fault}
-use Rattle.sl_stages.specs.declared.limits.TheConstants.{MAX_WINS}
-use Rattle.sl_stages.specs.declared.returns.Win.{Win}
-use Rattle.sl_stages.specs.returns.Election.{Election, IsElection, IsWin, with_win}
+use Rattle.sl_base_quotients.specs.Names.{name_fault}
+use Rattle.sl_law_meaning.specs.declared.limits.TheConstants.{MAX_WINS}
+use Rattle.sl_law_meaning.specs.declared.election.Win.{Win}
+use Rattle.sl_law_meaning.specs.returns.Election.{Election, IsElection, IsWin, with_win}
 use Rattle.sl_stages.specs.inner.Kept.{election_of}
-use Rattle.sl_stages.proofs.Elections.{is_with_win, is_spelled}
+use Rattle.sl_law_meaning.proofs.Elections.{is_with_win, is_spelled}
 use Rattle.sl_stages.proofs.returns.Returns.add_win.Goals as goal
 use Rattle.sl_stages.proofs.returns.Returns.add_win.Goals.{After-put-2}
 

@@ -2,7 +2,7 @@
 use Rattle.std.proofs.Common.{◌≡◌, ◌<◌, [], length, get_or, arith, ap, sym, ◌∙◌}
 use Rattle.std.proofs.lemmas.List.{get_or-map, length-map}
 use Rattle.std.proofs.lemmas.List.Elements.{All-get_or}
-use Rattle.sl_ratio.specs.declared.limits.TheConstants.{MAX_PARTIES}
+use Rattle.sl_base_quotients.specs.declared.limits.TheConstants.{MAX_PARTIES}
 use Rattle.sl_stages.specs.inner.Kept.{election_of}
 use Rattle.sl_stages.proofs.returns.Returns.list.Goals as goal
 

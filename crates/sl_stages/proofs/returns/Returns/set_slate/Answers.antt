@@ -1,10 +1,10 @@
 -- The returns with the names left on a list.
 use Rattle.std.proofs.Common.{◌≡◌, ◌<◌, ℕ, List, Option, Some, length, sym, subst, ◌∙◌, ap}
-use Rattle.sl_stages.specs.declared.returns.ListVotes.{ListVotes}
-use Rattle.sl_stages.specs.returns.Votes.{valid_in, counted_in}
-use Rattle.sl_stages.specs.returns.Election.{Election, IsElection, list_at, with_list, with_slate}
+use Rattle.sl_law_meaning.specs.declared.election.ListVotes.{ListVotes}
+use Rattle.sl_law_meaning.specs.returns.Votes.{valid_in, counted_in}
+use Rattle.sl_law_meaning.specs.returns.Election.{Election, IsElection, list_at, with_list, with_slate}
 use Rattle.sl_stages.specs.inner.Kept.{election_of}
-use Rattle.sl_stages.proofs.Elections.{is_with_slate}
+use Rattle.sl_law_meaning.proofs.Elections.{is_with_slate}
 use Rattle.sl_stages.proofs.returns.Returns.set_slate.Goals as goal
 use Rattle.sl_stages.proofs.returns.Returns.set_slate.Goals.{After-write_cell}
 

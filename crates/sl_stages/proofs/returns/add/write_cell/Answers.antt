@@ -2,7 +2,7 @@
 use Rattle.std.proofs.Common.{◌<◌, [], List, Option, Some, map, length, set, ap, sym, ◌∙◌, arith}
 use Rattle.std.proofs.lemmas.List.{map-set, get_or-map}
 use Rattle.std.specs.Vec.{with_item}
-use Rattle.sl_stages.specs.declared.returns.ListVotes.{ListVotes}
+use Rattle.sl_law_meaning.specs.declared.election.ListVotes.{ListVotes}
 use Rattle.sl_stages.proofs.returns.add.write_cell.Goals as goal
 
 pub returns : goal.returns

@@ -4,7 +4,7 @@ use Rattle.sl_count_inputs.specs.Judging.{tree_verdict}
 use Rattle.sl_count_inputs.specs.declared.status.Status.{Status}
 use Rattle.sl_desk.specs.Checking.{IsCheck, IsCheckOutput}
 use Rattle.sl_explain_calls.specs.Codes.{check_subject}
-use Rattle.sl_terminal_count.specs.Inputs.{named_input}
+use Rattle.sl_terminal_outside.specs.Inputs.{named_input}
 use Rattle.sl_terminal_commands.proofs.Deliveries.{ends_wider}
 use Rattle.sl_terminal_commands.proofs.Known.{if_known}
 use Rattle.sl_terminal_commands.proofs.Tellings.{ok_wider}

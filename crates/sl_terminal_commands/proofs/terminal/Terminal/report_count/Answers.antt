@@ -1,5 +1,5 @@
 use Rattle.sl_count_inputs.specs.declared.status.Status.{Status}
-use Rattle.sl_terminal_count.specs.Inputs.{named_input}
+use Rattle.sl_terminal_outside.specs.Inputs.{named_input}
 use Rattle.sl_terminal_commands.proofs.Deliveries.{ends_wider}
 use Rattle.sl_terminal_commands.proofs.Tellings.{ok_wider}
 use Rattle.sl_terminal_commands.proofs.terminal.Terminal.report_count.Goals as goal

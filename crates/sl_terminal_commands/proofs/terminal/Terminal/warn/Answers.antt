@@ -1,7 +1,7 @@
 use Rattle.std.proofs.Common.{Bor, subst, sym}
 use Rattle.std.specs.Option.{option_map}
-use Rattle.sl_stages.specs.book.Books.{book_of}
-use Rattle.sl_stages.specs.declared.book.Book.{Book}
+use Rattle.sl_law_meaning.specs.book.Books.{book_of}
+use Rattle.sl_law_meaning.specs.declared.book.Book.{Book}
 use Rattle.sl_terminal_commands.proofs.Tellings.{warns_nothing, warns_written}
 use Rattle.sl_terminal_commands.proofs.terminal.Terminal.warn.Goals as goal
 use Rattle.sl_report_warnings.specs.Heads.{AreWritten}

@@ -1,0 +1,2 @@
+pub mod NameLists
+pub mod Order

@@ -1,0 +1,10 @@
+pub mod Finding
+pub mod Greatest
+pub mod Rankings
+pub mod Orders
+pub mod Tables
+pub mod LotPlaces
+pub mod LawProofs
+pub mod Fronts
+pub mod RankedEntries
+pub mod PeerLaws

@@ -1,0 +1,4 @@
+pub mod Ranking
+pub mod Peers
+pub mod Lot
+pub mod Laws

@@ -1,5 +1,0 @@
-use Rattle.sl_prio.proofs.LawProofs.{order_is_free}
-use Rattle.sl_prio.proofs.laws.order_is_free.Goals as goal
-
-pub returns : goal.returns
-returns c = order_is_free

@@ -1,5 +1,0 @@
-use Rattle.sl_prio.proofs.PeerLaws.{peers_by_index}
-use Rattle.sl_prio.proofs.laws.peers_by_index.Goals as goal
-
-pub returns : goal.returns
-returns c = peers_by_index

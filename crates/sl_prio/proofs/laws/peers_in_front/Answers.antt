@@ -1,5 +1,0 @@
-use Rattle.sl_prio.proofs.Fronts.{peers_in_front}
-use Rattle.sl_prio.proofs.laws.peers_in_front.Goals as goal
-
-pub returns : goal.returns
-returns c = peers_in_front

@@ -1,5 +1,0 @@
-use Rattle.sl_prio.proofs.RankedEntries.{ranked_without_one}
-use Rattle.sl_prio.proofs.laws.ranked_without_one.Goals as goal
-
-pub returns : goal.returns
-returns c = ranked_without_one

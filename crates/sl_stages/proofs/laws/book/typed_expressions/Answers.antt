@@ -1,5 +1,0 @@
-use Rattle.sl_stages.proofs.typing.TypedExpressions.{typed_expressions}
-use Rattle.sl_stages.proofs.laws.book.typed_expressions.Goals as goal
-
-pub returns : goal.returns
-returns c = typed_expressions

@@ -1,5 +1,0 @@
-use Rattle.sl_stages.proofs.methods.CoveringProofs.{covering_ladders_law}
-use Rattle.sl_stages.proofs.laws.covering_ladders.Goals as goal
-
-pub returns : goal.returns
-returns c = covering_ladders_law

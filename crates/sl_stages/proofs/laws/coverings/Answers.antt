@@ -1,8 +1,0 @@
-use Rattle.sl_stages.proofs.methods.CoveringProofs.{coverings, full_coverings}
-use Rattle.sl_stages.proofs.laws.coverings.Goals as goal
-
-pub returns-clause-well_defined : goal.returns-clause-well_defined
-returns-clause-well_defined c = coverings
-
-pub returns-clause-full : goal.returns-clause-full
-returns-clause-full c = full_coverings

@@ -1,5 +1,0 @@
-use Rattle.sl_stages.proofs.methods.DivisorProofs.{divisor_allocations}
-use Rattle.sl_stages.proofs.laws.divisor_allocations.Goals as goal
-
-pub returns : goal.returns
-returns c = divisor_allocations

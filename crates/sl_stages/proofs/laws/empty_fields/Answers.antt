@@ -1,5 +1,0 @@
-use Rattle.sl_stages.proofs.methods.DivisorProofs.{empty_fields}
-use Rattle.sl_stages.proofs.laws.empty_fields.Goals as goal
-
-pub returns : goal.returns
-returns c = empty_fields

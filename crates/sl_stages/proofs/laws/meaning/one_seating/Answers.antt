@@ -1,5 +1,0 @@
-use Rattle.sl_stages.proofs.meaning.OneOutcome.{one_seating}
-use Rattle.sl_stages.proofs.laws.meaning.one_seating.Goals as goal
-
-pub returns : goal.returns
-returns c = one_seating

@@ -1,5 +1,0 @@
-use Rattle.sl_stages.proofs.meaning.MeaningProofs.{some_outcome}
-use Rattle.sl_stages.proofs.laws.meaning.some_outcome.Goals as goal
-
-pub returns : goal.returns
-returns c = some_outcome

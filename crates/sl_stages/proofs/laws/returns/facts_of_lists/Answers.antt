@@ -1,5 +1,0 @@
-use Rattle.sl_stages.proofs.FactReadings.{facts_of_lists}
-use Rattle.sl_stages.proofs.laws.returns.facts_of_lists.Goals as goal
-
-pub returns : goal.returns
-returns c = facts_of_lists
