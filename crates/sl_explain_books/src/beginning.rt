@@ -3,9 +3,9 @@
 ghost use Rattle.std.specs.Prelude.{◌≡◌, ◌↔◌, map, IfOk, IsTrue};
 ghost use Rattle.sl_explain_books.specs.Beginnings.{example_of, sort_of, AreBeginning};
 
+use sl_base_quotients::NoMemory;
 use sl_lex::{Keyword, Kind, Mark, Token};
 use sl_parse::{ParseFault, parse_spans};
-use sl_base_quotients::NoMemory;
 use std::alloc::Global;
 
 /// Tokens that the grammar does not tell apart. The word `vacate` is a name that may stand where no other name may.

@@ -9,10 +9,10 @@ use crate::clause::Clause;
 use crate::left_out::without;
 use crate::pieces::line_number;
 use crate::tests::explain_fault;
-use crate::texts::{ALSO, LINE, MORE};
+use crate::texts::further::{ALSO, LINE, MORE};
+use sl_base_quotients::NoMemory;
 use sl_check::check;
 use sl_explain_texts::{Explanation, Speaker};
-use sl_base_quotients::NoMemory;
 use sl_law_meaning::{Book, CheckFault};
 
 /// How many of the further clauses that are refused have a line.

@@ -12,18 +12,19 @@ use crate::beginning::Sort;
 use crate::meant::{is_droop, keyword_of, method_of};
 use crate::near::help_nearest_or;
 use crate::pieces::{line_number, piece, span_within, token_span};
-use crate::texts::{
-    AFTER, AFTER_BOOK, AFTER_OTHER, AFTER_STAGE, DOUBLE, ENDED, FORMS_EXPLAINED, FOUND, METHOD,
-    NO_CLAUSE, NO_FORM, NO_METHOD, NO_SEMICOLON, RESERVED, SEMICOLON, SURPLUS,
+use crate::texts::grammar::{
+    AFTER, AFTER_BOOK, AFTER_OTHER, AFTER_STAGE, DOUBLE, ENDED, FORMS_EXPLAINED, FOUND, NO_CLAUSE,
+    NO_FORM, NO_SEMICOLON, RESERVED, SEMICOLON, SURPLUS,
 };
+use crate::texts::meant::{METHOD, NO_METHOD};
 use crate::whole::explain_whole;
 use contexts::remedy;
 use going_on::{expected, listed, words};
 use limits::{explain_depth, explain_no_room, explain_stages};
+use sl_base_quotients::NoMemory;
 use sl_explain_texts::{Explanation, FaultCode, Language, Message, Span, Speaker};
 use sl_lex::{Keyword, Kind, Mark, Token};
 use sl_parse::ParseFault;
-use sl_base_quotients::NoMemory;
 use std::alloc::Global;
 
 // The words that begin a form.

@@ -3,8 +3,8 @@
 ghost use Rattle.std.specs.Prelude.{◌≡◌};
 ghost use Rattle.sl_parse.specs.Words.{axis_word, fact_word, pairing_word};
 
-use sl_lex::Keyword;
 use sl_law_meaning::{Axis, Fact, Pairing};
+use sl_lex::Keyword;
 
 /// The keyword of a fact, which is a column of the returns.
 pub fn fact_keyword(fact: Fact) -> Keyword

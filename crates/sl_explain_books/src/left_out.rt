@@ -8,8 +8,8 @@ ghost use Rattle.sl_law_meaning.specs.book.Trees.{stage_of, tree_of};
 ghost use Rattle.sl_explain_books.specs.Further.{base_left, condition_left, is_left_out, left_of, lost_with, names_lost, names_one_of, stages_left, without};
 
 use crate::clause::Clause;
-use sl_book_copies::{copy_stage, copy_word};
 use sl_base_quotients::NoMemory;
+use sl_book_copies::{copy_stage, copy_word};
 use sl_law_meaning::{Base, Book, Cond, Expr, LastClause, Stage, Word};
 use std::alloc::Global;
 

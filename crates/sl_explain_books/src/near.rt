@@ -3,8 +3,8 @@
 ghost use Rattle.std.specs.Prelude.{◌≡◌};
 
 use crate::keywords::fact_keyword;
-use sl_explain_texts::{Explanation, Message, Speaker};
 use sl_base_quotients::NoMemory;
+use sl_explain_texts::{Explanation, Message, Speaker};
 use sl_law_meaning::{FACTS, Stage};
 use std::alloc::Global;
 

@@ -11,14 +11,14 @@ mod node;
 mod numbers;
 
 use crate::further::add_further;
-use crate::texts::{CAP, CAP_REMEDY, HOUSE, HOUSE_REMEDY};
+use crate::texts::tests::{CAP, CAP_REMEDY, HOUSE, HOUSE_REMEDY};
 use divisions::explain_option;
 use forms::{explain_shape, explain_two_splits};
 pub use names::around;
 use names::{explain_seats, explain_twice, explain_unknown};
 use numbers::{explain_seat_number, explain_share, explain_version};
-use sl_explain_texts::{Explanation, FaultCode, Language, Speaker};
 use sl_base_quotients::NoMemory;
+use sl_explain_texts::{Explanation, FaultCode, Language, Speaker};
 use sl_law_meaning::{Book, CheckFault};
 use std::alloc::Global;
 

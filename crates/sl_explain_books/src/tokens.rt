@@ -8,14 +8,14 @@ mod character;
 
 use crate::near::help_nearest_or;
 use crate::pieces::{piece, span_within, token_span};
-use crate::texts::{
+use crate::texts::tokens::{
     BIG_NUMBER, BIG_NUMBER_REMEDY, LONG_NAME, LONG_NAME_REMEDY, NOT_CLOSED, NOT_CLOSED_REMEDY,
 };
 use crate::whole::explain_whole;
 use character::{explain_character, explain_in_text};
+use sl_base_quotients::{MAX_NAME_BYTES, NoMemory};
 use sl_explain_texts::{Explanation, FaultCode, Language, Span, Speaker};
 use sl_lex::LexFault;
-use sl_base_quotients::{MAX_NAME_BYTES, NoMemory};
 use std::alloc::Global;
 
 // The longest keywords, which a word of more bytes may be meant for.

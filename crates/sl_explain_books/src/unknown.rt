@@ -4,14 +4,14 @@ ghost use Rattle.std.specs.Prelude.{◌≡◌, IfOk, Some};
 ghost use Rattle.sl_explain_texts.specs.declared.code.FaultCode.TheVariants.{B01, B22};
 
 use crate::near::{columns_of_returns, help_nearest_stage, help_stages};
-use crate::texts::{
+use crate::texts::unknown::{
     COLUMN, ELECTION, ITS_STAGES, LIBRARY, NAME_ALONE, NO_ELECTION, NO_STAGE, NO_STAGES,
     NO_STATUTE, SEATS_NO_STAGE, UNKNOWN_STATUTE,
 };
-use sl_explain_texts::{Explanation, FaultCode, Language, Sentence, Speaker};
-use sl_laws::{ELECTIONS, STATUTES, law};
 use sl_base_quotients::NoMemory;
+use sl_explain_texts::{Explanation, FaultCode, Language, Sentence, Speaker};
 use sl_law_meaning::{Book, Stage};
+use sl_laws::{ELECTIONS, STATUTES, law};
 use std::alloc::Global;
 
 // What to say of an election, by its statute.

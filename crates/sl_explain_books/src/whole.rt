@@ -3,13 +3,13 @@
 ghost use Rattle.std.specs.Prelude.{◌≡◌, IfOk, IfSome, Some};
 
 use crate::pieces::span_within;
-use crate::texts::{
+use crate::texts::whole::{
     BYTE_ORDER_MARK, BYTE_ORDER_MARK_REMEDY, CODE_FILE, CODE_FILE_REMEDY, EMPTY_FILE,
     EMPTY_FILE_REMEDY, PACKED_FILE, PACKED_FILE_REMEDY, RETURNS_FILE, RETURNS_FILE_REMEDY,
     UTF16_FILE, UTF16_FILE_REMEDY,
 };
-use sl_explain_texts::{Explanation, FaultCode, Message, Speaker, packing_of};
 use sl_base_quotients::NoMemory;
+use sl_explain_texts::{Explanation, FaultCode, Message, Speaker, packing_of};
 
 // What a file is that is no rulebook.
 struct Other {

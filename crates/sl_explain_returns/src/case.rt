@@ -2,10 +2,10 @@
 
 ghost use Rattle.std.specs.Prelude.{◌≡◌, IfOk, Some};
 
-use crate::texts::{CELL, CELLS};
+use crate::texts::case::{CELL, CELLS};
 use csv::ByteRecord;
-use sl_explain_texts::{Explanation, FaultCode, Message, Span, Speaker, line_at};
 use sl_base_quotients::NoMemory;
+use sl_explain_texts::{Explanation, FaultCode, Message, Span, Speaker, line_at};
 use sl_returns::{COLUMNS, Content, KIND, Kind, cell, reader_of};
 use sl_returns_places::{RecordAtFault, cell_place};
 use sl_stages::Returns;

@@ -5,14 +5,14 @@ ghost use Rattle.sl_explain_texts.specs.declared.code.FaultCode.TheVariants.{R02
 
 use crate::case::Case;
 use crate::digits::are_digits;
-use crate::texts::{
+use crate::texts::fields::{
     DELETE, EMPTY_THE_CELL, FILLED, HOUSE_FORM, JOIN, LAND_FORM, LIST_FORM, LOT_FORMS,
     LOT_WITHOUT_WINNER, NO_ENTRY, NO_FORM, NO_SEATS, NO_SLATE, PARTY_FORM, RECORD_CELLS,
     RECORD_COMMENT, RECORD_PIPES, RECORD_SEMICOLONS, RECORD_TABS, RECORD_TRAILING, REPLACE, SECOND,
     SHORTEN_RECORD, SPLIT, WIN_FORM,
 };
-use sl_explain_texts::{Explanation, FaultCode, Message, Span};
 use sl_base_quotients::NoMemory;
+use sl_explain_texts::{Explanation, FaultCode, Message, Span};
 use sl_returns::{A, B, C, COLUMNS, Content, KIND, Kind, LAND, PARTY, column_name};
 
 /// The form of a kind.

@@ -3,12 +3,12 @@
 ghost use Rattle.std.specs.Prelude.{◌≡◌, IfOk, Some};
 ghost use Rattle.sl_explain_texts.specs.declared.code.FaultCode.TheVariants.{R01};
 
-use crate::texts::{
+use crate::texts::files::{
     BINARY, BOOK, CODE, EMPTY_FILE, NO_PATH, ORDER, PACKED, RUN, SAVE, SAVE_OR_UNPACK, UNPACK,
     UTF16, WORKBOOK, ZIPPED,
 };
-use sl_explain_texts::{Explanation, FaultCode, Message, Span, Speaker, first_line, packing_of};
 use sl_base_quotients::NoMemory;
+use sl_explain_texts::{Explanation, FaultCode, Message, Span, Speaker, first_line, packing_of};
 
 /// What a file is that is no text of cells, by its first bytes.
 #[derive(Clone, Copy)]

@@ -4,9 +4,9 @@ ghost use Rattle.std.specs.Prelude.{◌≡◌};
 
 use crate::case::Case;
 use crate::faults::explain_record;
-use crate::texts::{ALSO, LINE, MORE};
-use sl_explain_texts::{Explanation, line_at};
+use crate::texts::further::{ALSO, LINE, MORE};
 use sl_base_quotients::NoMemory;
+use sl_explain_texts::{Explanation, line_at};
 use sl_returns::{RefusedRecord, RefusedReturns};
 use sl_returns_places::RecordAtFault;
 

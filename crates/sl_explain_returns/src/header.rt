@@ -6,13 +6,14 @@ ghost use Rattle.sl_explain_texts.specs.declared.code.FaultCode.TheVariants.{R01
 use crate::case::Case;
 use crate::files::{FileKind, foreign_kind};
 use crate::quotes::explain_quote;
-use crate::texts::{
-    ADD, COUNT, DELETE, EXPECTED, HEADER_COMMENT, HEADER_PIPES, HEADER_SEMICOLONS, HEADER_TABS,
+use crate::texts::fields::DELETE;
+use crate::texts::header::{
+    ADD, COUNT, EXPECTED, HEADER_COMMENT, HEADER_PIPES, HEADER_SEMICOLONS, HEADER_TABS,
     HEADER_TRAILING, NO_HEADER, NO_NAMES, NUMBERED, OFFICE, OTHER_HEADER, REPLACE_PIPES,
     REPLACE_SEMICOLONS, REPLACE_TABS, SEP, SHEETS, SHORTEN_HEADER, SPELLING, WIDE,
 };
-use sl_explain_texts::{Explanation, FaultCode, Message, Span, first_line};
 use sl_base_quotients::NoMemory;
+use sl_explain_texts::{Explanation, FaultCode, Message, Span, first_line};
 use sl_returns::{COLUMNS, KIND, Kind, column_name};
 
 // Marks that separate cells in place of commas.

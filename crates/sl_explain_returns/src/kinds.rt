@@ -4,12 +4,13 @@ ghost use Rattle.std.specs.Prelude.{◌≡◌, IfOk, Some};
 ghost use Rattle.sl_explain_texts.specs.declared.code.FaultCode.TheVariants.{R03, R11};
 
 use crate::case::Case;
-use crate::texts::{
-    ADD_LAND, AGAIN, DELETE, DELETE_ROWS, EMPTY_ROW, KIND_COMMENT, KINDS, NEAREST_KIND, NO_KIND,
+use crate::texts::fields::DELETE;
+use crate::texts::kinds::{
+    ADD_LAND, AGAIN, DELETE_ROWS, EMPTY_ROW, KIND_COMMENT, KINDS, NEAREST_KIND, NO_KIND,
     NO_LAND_RECORD, OTHER_KIND,
 };
-use sl_explain_texts::{Explanation, FaultCode, Message, nearest};
 use sl_base_quotients::NoMemory;
+use sl_explain_texts::{Explanation, FaultCode, Message, nearest};
 use sl_returns::{COLUMNS, KIND, Kind};
 
 // Other words for the kinds, in small letters, and the kinds that they mean.

@@ -1,7 +1,7 @@
 //! Names in letters that a name may have.
 
-use sl_explain_texts::append;
 use sl_base_quotients::{MAX_NAME_BYTES, NoMemory, spelling_fault};
+use sl_explain_texts::append;
 use std::alloc::Global;
 
 // Whether a name may have a byte.

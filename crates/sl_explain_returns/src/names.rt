@@ -5,12 +5,12 @@ ghost use Rattle.sl_explain_texts.specs.declared.code.FaultCode.TheVariants.{R04
 
 use crate::case::Case;
 use crate::letters::{name_for, wrong_character};
-use crate::texts::{
+use crate::texts::names::{
     BLANK, CHARACTER, CONTROL, EMPTY_CELL, FILL, LATIN, LONG_NAME, OF_LAND, OF_PARTY, OF_STAGE,
     OF_WIN, RENAME, SPELL, STAGE,
 };
-use sl_explain_texts::{Explanation, FaultCode, Message};
 use sl_base_quotients::{MAX_NAME_BYTES, NoMemory};
+use sl_explain_texts::{Explanation, FaultCode, Message};
 use sl_returns::{Content, Named, column_name};
 
 /// What a name names, in words, and whether it is a stage's.

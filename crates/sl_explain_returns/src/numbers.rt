@@ -7,14 +7,15 @@ use crate::case::Case;
 use crate::digits::is_number;
 use crate::fields::form_of_kind;
 use crate::form::{Form, form_of, meant};
-use crate::texts::{
-    ALL_FIRST, COUNTED_VOTES, DATE, DECIMAL, EDGED, EMPTY_CELL, EXCHANGE_FIRST, EXPONENT,
-    FIRST_VOTES, FLAG, FORMAT, HOUSE, LONG_NUMBER, LOOK, MINORITY, MISSING, MORE_FIRST, NO_PERCENT,
-    NOT_A_DATE, NOT_BELOW, OTHER_CHARACTER, PEOPLE, PERCENT, RANGE, SEPARATED, SIGNED, SLATE,
-    VALID, WINNER_WITHOUT_VOTES, WRITE, WRITE_COUNTED, WRITE_DIGITS, WRITE_KNOWN, WRITE_WHOLE,
+use crate::texts::names::EMPTY_CELL;
+use crate::texts::numbers::{
+    ALL_FIRST, COUNTED_VOTES, DATE, DECIMAL, EDGED, EXCHANGE_FIRST, EXPONENT, FIRST_VOTES, FLAG,
+    FORMAT, HOUSE, LONG_NUMBER, LOOK, MINORITY, MISSING, MORE_FIRST, NO_PERCENT, NOT_A_DATE,
+    NOT_BELOW, OTHER_CHARACTER, PEOPLE, PERCENT, RANGE, SEPARATED, SIGNED, SLATE, VALID,
+    WINNER_WITHOUT_VOTES, WRITE, WRITE_COUNTED, WRITE_DIGITS, WRITE_KNOWN, WRITE_WHOLE,
 };
-use sl_explain_texts::{Explanation, FaultCode, Message, Speaker};
 use sl_base_quotients::NoMemory;
+use sl_explain_texts::{Explanation, FaultCode, Message, Speaker};
 use sl_returns::{A, B, C, Content, Quantity, column_name};
 
 // What a number counts, in words.

@@ -3,9 +3,9 @@
 ghost use Rattle.std.specs.Prelude.{◌≡◌, IfOk, IfSome, Some};
 
 use crate::case::Case;
-use crate::texts::{CLOSE, OPEN};
-use sl_explain_texts::{Explanation, FaultCode, Span};
+use crate::texts::quotes::{CLOSE, OPEN};
 use sl_base_quotients::NoMemory;
+use sl_explain_texts::{Explanation, FaultCode, Span};
 
 // The first byte of a cell that goes on over the end of a line, where the next quote of the file stands, or where none does to the end of the text.
 fn open_cell(case: &Case<'_>, column: usize) -> Option<Span> {

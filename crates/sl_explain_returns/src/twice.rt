@@ -4,13 +4,13 @@ ghost use Rattle.std.specs.Prelude.{◌≡◌, IfOk, Some};
 ghost use Rattle.sl_explain_texts.specs.declared.code.FaultCode.TheVariants.{R08, R09, R10};
 
 use crate::case::Case;
-use crate::texts::{
+use crate::texts::twice::{
     EXCHANGE_COUNTED, FEWER, FEWER_LOTS, FIRST_HOUSE, FIRST_LINE, HOUSE_TWICE, LAND_TWICE, LANDS,
     LIST_TWICE, LOT_TWICE, LOTS, MORE_COUNTED, ONE_RECORD_EACH, PARTIES, PARTY_TWICE, WIN_TWICE,
     WINS,
 };
-use sl_explain_texts::{Explanation, FaultCode, Message};
 use sl_base_quotients::NoMemory;
+use sl_explain_texts::{Explanation, FaultCode, Message};
 use sl_returns::{A, B, Content, KIND, Kind, LAND, Named, PARTY};
 use sl_stages::{MAX_LANDS, MAX_LOTS, MAX_PARTIES, MAX_WINS};
 

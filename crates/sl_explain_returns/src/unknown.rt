@@ -4,12 +4,12 @@ ghost use Rattle.std.specs.Prelude.{◌≡◌, IfOk, Some};
 ghost use Rattle.sl_explain_texts.specs.declared.code.FaultCode.TheVariants.{R07};
 
 use crate::case::{Case, find_record};
-use crate::texts::{
+use crate::texts::unknown::{
     DECLARE_LAND, DECLARE_PARTY, DECLARE_WIN, IS_LAND, IS_PARTY, LATER, NEAREST_NAME, NO_LAND,
     NO_PARTY, NO_SUMS, NO_WIN,
 };
-use sl_explain_texts::{Explanation, FaultCode, Message, nearest};
 use sl_base_quotients::NoMemory;
+use sl_explain_texts::{Explanation, FaultCode, Message, nearest};
 use sl_returns::{A, Before, Content, KIND, Kind, LAND, Named, PARTY};
 use sl_stages::Returns;
 use std::alloc::Global;

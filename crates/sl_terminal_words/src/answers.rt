@@ -4,11 +4,12 @@ use crate::help::{Form, PROGRAM, command_of, named};
 use crate::hints::hint_of;
 use crate::page::{push_ending, push_page, push_usage};
 use crate::refusals::{refusal, sentence_in, tips_in};
-use crate::texts::{NO_MEMORY, TIP};
+use crate::texts::answers::NO_MEMORY;
+use crate::texts::refusals::TIP;
 use clap::error::ErrorKind;
 use clap::{Command, Error};
-use sl_explain_texts::{Language, Message, append};
 use sl_base_quotients::NoMemory;
+use sl_explain_texts::{Language, Message, append};
 use std::alloc::{AllocError, Global};
 
 /// What is said of words that ask for no command.

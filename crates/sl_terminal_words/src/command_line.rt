@@ -4,11 +4,11 @@ use crate::answers::{Answer, answer_to, refuse};
 use crate::help::{COMMANDS, Form, Name, PROGRAM, command_of};
 use crate::options::{Options, language_in, options_of};
 use crate::reports::{Report, ReportForm, form_of, report_of};
-use crate::texts::{NO_COMMAND, SAME_FILE, UNKNOWN_CODE};
+use crate::texts::command_line::{NO_COMMAND, SAME_FILE, UNKNOWN_CODE};
 use crate::words::{Given, Word};
 use clap::{Arg, ArgAction, ArgMatches, Command};
-use sl_explain_texts::{FaultCode, Language, Message, VERSION};
 use sl_base_quotients::NoMemory;
+use sl_explain_texts::{FaultCode, Language, Message, VERSION};
 use std::alloc::{AllocError, Global};
 
 /// What is shown of an election that is counted.

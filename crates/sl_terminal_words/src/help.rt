@@ -1,7 +1,7 @@
 //! The commands as a table: of each its words and options, what it reads and writes, an example, and the exit statuses.
 
 use crate::statuses::{ALL, COUNTS, READS, RUNS, Status, TELLS};
-use crate::texts::{
+use crate::texts::help::{
     CHECK_ABOUT, CHECK_MORE, CODE_ABOUT, CODE_MORE, COMPARE_ABOUT, COMPARE_MORE, COUNT_ABOUT,
     COUNT_MORE, EXPLAIN_ABOUT, EXPLAIN_MORE, LAW_ABOUT, LAW_MORE, PROGRAM_ABOUT, PROGRAM_MORE,
     REPORT_ABOUT, REPORT_MORE, RUN_ABOUT, RUN_MORE, STAGE_ABOUT, STAGE_MORE, STAGES_ABOUT,

@@ -1,13 +1,13 @@
 //! What to do about words that are refused: a command or an option that is meant, or an example.
 
 use crate::help::command_of;
-use crate::texts::{
+use crate::texts::hints::{
     ALL, BESIDE_SHORT, CALLED, CODE_ALONE, COMMAND_FIRST, COMPARE_ALONE, FOR_EXAMPLE, IN_PLACE,
     METHODS, NO_RULEBOOK, OPTION_BEHIND, REDIRECT, REPORT_ALONE, REPORTS, STAGE, VERSION,
 };
 use clap::error::ErrorKind;
-use sl_explain_texts::{Language, Message};
 use sl_base_quotients::NoMemory;
+use sl_explain_texts::{Language, Message};
 use std::alloc::Global;
 
 // Words that are taken for commands, and the commands.

@@ -1,7 +1,7 @@
 //! The help of a command as a text, for a language that `clap` does not write; and the end of a help, which `clap` does not have.
 
 use crate::help::{COMMANDS, Form, LAW_NAME};
-use crate::texts::{
+use crate::texts::page::{
     ALL_STATUSES, COMMAND, EXAMPLE, HELP_COMMAND, NO_ELECTION, SOME_OPTIONS, STATUSES,
     TITLE_OF_COMMANDS, TITLE_OF_OPTIONS, TITLE_OF_STATUTES, TITLE_OF_WORDS, USAGE, VALUES,
 };

@@ -3,14 +3,14 @@
 //! An error of `clap` gives its kind and its English text, and no values. So the English text of a message is the pattern by which its values are
 //! read, and its German text takes them in the same order.
 
-use crate::texts::{
+use crate::texts::refusals::{
     INVALID_VALUE, MISSING_ARGUMENTS, MISSING_VALUE, MISSING_VALUE_OF_THESE, NO_SUBCOMMAND,
     OTHER_REFUSAL, PASSED_AS_VALUE, REFUSAL, REPEATED_ARGUMENT, SIMILAR_ARGUMENT,
     SIMILAR_SUBCOMMAND, SIMILAR_SUBCOMMANDS, SIMILAR_VALUE, TIP, UNEXPECTED_ARGUMENT,
     UNEXPECTED_VALUE, UNKNOWN_SUBCOMMAND, UNLIKE_ARGUMENT, UNLIKE_ARGUMENTS,
 };
-use sl_explain_texts::{Language, Message, append};
 use sl_base_quotients::NoMemory;
+use sl_explain_texts::{Language, Message, append};
 use std::alloc::{AllocError, Global};
 
 // The sentences.

@@ -1,6 +1,8 @@
 //! The exit statuses, as the help of a command lists them.
 
-use crate::texts::{BUDGET, BUDGET_OF_RUN, DONE, FILE_STATUS, INPUT, LEGAL, OUTPUT, WORDS};
+use crate::texts::statuses::{
+    BUDGET, BUDGET_OF_RUN, DONE, FILE_STATUS, INPUT, LEGAL, OUTPUT, WORDS,
+};
 use sl_explain_texts::Message;
 
 /// An exit status, and why the program ends with it.

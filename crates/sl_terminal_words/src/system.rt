@@ -1,6 +1,6 @@
 //! The reasons that the system gives for a file that cannot be opened or made, in both languages.
 
-use crate::texts::{
+use crate::texts::system::{
     CANNOT_ALLOCATE, DEVICE_BUSY, FILE_EXISTS, FILE_TOO_LARGE, INPUT_OUTPUT_ERROR,
     INTERRUPTED_CALL, INVALID_ARGUMENT, IS_DIRECTORY, LONG_FILE_NAME, NO_DIRECTORY, NO_SPACE,
     NO_SUCH_ADDRESS, NO_SUCH_DEVICE, NO_SUCH_FILE, NOT_PERMITTED, NOT_SUPPORTED, NUMBER,

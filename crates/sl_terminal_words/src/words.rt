@@ -1,6 +1,6 @@
 //! The words and options of the commands: how each is given, and what it stands for, in both languages. Their names are the same in both.
 
-use crate::texts::{
+use crate::texts::words::{
     BEFORE_HELP, BOOK_HELP, BOOKS_HELP, CODE_FILE_HELP, CSV_HELP, FAULT_CODE_HELP, FILE_VALUE,
     FORCE_HELP, HELP_HELP, HTML_HELP, JSON_HELP, LANGUAGE_HELP, LANGUAGE_VALUE, MARKDOWN_HELP,
     METHOD_HELP, METHOD_VALUE, NAMES_HELP, OUT_HELP, QUIET_HELP, RETURNS_HELP, SHORT_HELP,

@@ -1,7 +1,7 @@
 //! What to write at a place, by what may stand there.
 
 use crate::beginning::Sort;
-use crate::texts::{
+use crate::texts::grammar::{
     AXES, BASE, BEGINNING, CLOSED, CONDITIONS, END, EXPRESSION, FORMS_LISTED, JOINED, LAW_TEXT,
     MAJORITY, METHODS, NAME_REMEDY, NUMBER_REMEDY, OPTIONS, ORDER, PER, SEATING, STAGE,
     STAGE_OR_SEATS,

@@ -5,10 +5,10 @@ ghost use Rattle.sl_lex.specs.Tokens.{sign};
 
 use crate::beginning::{Sort, begins_book};
 use crate::pieces::{piece, span_within};
-use crate::texts::{NAME_WORD, NUMBER_WORD, TEXT_WORD};
+use crate::texts::grammar::{NAME_WORD, NUMBER_WORD, TEXT_WORD};
+use sl_base_quotients::NoMemory;
 use sl_explain_texts::Speaker;
 use sl_lex::{KEYWORDS, Mark, Token};
-use sl_base_quotients::NoMemory;
 use std::alloc::Global;
 
 // The sorts that a sentence names before the keywords.

@@ -4,14 +4,14 @@ ghost use Rattle.std.specs.Prelude.{◌≡◌, IfOk, Some};
 ghost use Rattle.sl_explain_texts.specs.declared.code.FaultCode.TheVariants.{B02, B07, B08, B09};
 
 use crate::pieces::token_span;
-use crate::texts::{
+use crate::texts::grammar::{
     LONG_BOOK, LONG_BOOK_REMEDY, NO_ROOM, PARTS_REMEDY, STAGES_REMEDY, TOO_DEEP, TOO_MANY_PARTS,
     TOO_MANY_STAGES,
 };
-use sl_explain_texts::{Explanation, FaultCode, Language, Message, Sentence, Span, Speaker};
-use sl_lex::{Keyword, Kind, Mark, Token};
 use sl_base_quotients::NoMemory;
+use sl_explain_texts::{Explanation, FaultCode, Language, Message, Sentence, Span, Speaker};
 use sl_law_meaning::{MAX_DEPTH, MAX_PARTS, MAX_STAGES};
+use sl_lex::{Keyword, Kind, Mark, Token};
 use std::alloc::Global;
 
 /// Explains a book that has too many bytes.

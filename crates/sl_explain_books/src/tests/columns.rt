@@ -1,11 +1,11 @@
 //! What the columns of stages and of expressions have.
 
-use crate::texts::{
+use crate::texts::tests::{
     LAND_SEATS, LAND_VOTES, LIST_SEATS, LIST_VOTES, ONE_SEATS, ONE_VOTES, PARTY_SEATS, PARTY_VOTES,
 };
+use sl_base_quotients::NoMemory;
 use sl_check::Columns;
 use sl_explain_texts::Speaker;
-use sl_base_quotients::NoMemory;
 use sl_law_meaning::{ColumnType, Shape, Stage, Unit};
 use std::alloc::Global;
 

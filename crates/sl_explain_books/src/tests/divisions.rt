@@ -6,15 +6,15 @@ ghost use Rattle.sl_explain_texts.specs.declared.code.FaultCode.TheVariants.{B19
 use super::forms::{explain_arguments, explain_unfit, node_in, sums_to};
 use super::node::{Division, Node};
 use crate::pieces::token_span;
-use crate::texts::{
+use crate::texts::tests::{
     GROW_ONE, HAMILTON_GROWS, HAMILTON_GROWS_REMEDY, HAMILTON_MINIMA, HAMILTON_MINIMA_REMEDY,
     MINIMA, MINIMA_REMEDY, MINIMA_SUM, NEEDS_SEATS, NEEDS_VOTES, PREFER, PREFER_REMEDY,
     SEATS_BY_VOTES, SEATS_OF_LISTS, SWAPPED, SWAPPED_REMEDY, VOTES_OF_LISTS, VOTES_OF_SOME,
 };
-use sl_explain_texts::{Explanation, FaultCode, Message, Span, Speaker};
-use sl_parse::method_keyword;
 use sl_base_quotients::{Method, NoMemory};
+use sl_explain_texts::{Explanation, FaultCode, Message, Span, Speaker};
 use sl_law_meaning::{Book, ColumnType, Shape, Unit};
+use sl_parse::method_keyword;
 
 // What to do about minima that do not fit the votes.
 fn minima_remedy(votes: ColumnType, minima: ColumnType) -> &'static Message {

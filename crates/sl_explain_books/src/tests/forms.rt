@@ -9,13 +9,13 @@ use super::names::{above, around, named};
 use super::node::{Node, node_at};
 use crate::keywords::{axis_keyword, pairing_keyword};
 use crate::pieces::{line_number, piece, token_span};
-use crate::texts::{
+use crate::texts::tests::{
     MADE, NOT_FITTING, PAIR, PAIR_ALL, PAIR_SUM_FIRST, PAIR_SUM_SECOND, PAIR_UNIT_REMEDY, SUM_AXIS,
     SUM_AXIS_REMEDY, SUM_ONE, SUM_ONE_REMEDY, TWO_SPLITS, TWO_SPLITS_REMEDY,
 };
+use sl_base_quotients::NoMemory;
 use sl_check::Columns;
 use sl_explain_texts::{Explanation, FaultCode, Message, Sentence, Span, Speaker};
-use sl_base_quotients::NoMemory;
 use sl_law_meaning::{Axis, Book, ColumnType, Shape, Stage};
 
 /// More than one split or growth in a stage.

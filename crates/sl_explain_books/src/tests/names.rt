@@ -8,13 +8,13 @@ ghost use Rattle.sl_law_meaning.specs.book.Trees.{stage_of};
 use super::columns::{column_words, types_of};
 use crate::near::{columns_of_returns, help_nearest_stage, help_stages};
 use crate::pieces::{line_number, piece, token_span};
-use crate::texts::{
+use crate::texts::tests::{
     EARLIER, FACTS, ITSELF, ITSELF_REMEDY, LAST_CLAUSE_SEATS, LATER, LATER_REMEDY, NO_EARLIER,
     NO_SEATS, SEATS_FITTING, SEATS_SPLIT, SEATS_VOTES, TWICE, TWICE_REMEDY, UNKNOWN, UNKNOWN_BASE,
 };
+use sl_base_quotients::NoMemory;
 use sl_check::Columns;
 use sl_explain_texts::{Explanation, FaultCode, Message, Sentence, Span, Speaker};
-use sl_base_quotients::NoMemory;
 use sl_law_meaning::{Base, Book, ColumnType, Shape, Stage, Unit};
 
 // How many stages begin before an offset.

@@ -1,7 +1,7 @@
 //! A form in an expression, with what its arguments have.
 
-use sl_check::Columns;
 use sl_base_quotients::Method;
+use sl_check::Columns;
 use sl_law_meaning::{Axis, ColumnType, Expr, Pairing};
 
 /// A split or a growth.

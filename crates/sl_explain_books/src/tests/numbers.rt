@@ -4,12 +4,12 @@ ghost use Rattle.std.specs.Prelude.{◌≡◌, IfOk, Some};
 ghost use Rattle.sl_explain_texts.specs.declared.code.FaultCode.TheVariants.{B11, B13};
 
 use crate::pieces::{piece, token_span};
-use crate::texts::{
+use crate::texts::tests::{
     NO_VERSION, SHARE_MORE, SHARE_MORE_REMEDY, SHARE_PARTS, SHARE_PARTS_REMEDY, SHARE_ZERO,
     SHARE_ZERO_REMEDY, VACATE, VACATE_REMEDY, VERSIONS,
 };
-use sl_explain_texts::{Explanation, FaultCode, Message, Sentence, Span, Speaker};
 use sl_base_quotients::NoMemory;
+use sl_explain_texts::{Explanation, FaultCode, Message, Sentence, Span, Speaker};
 use sl_law_meaning::{Book, Cond, MAX_PER, MAX_SEATS};
 
 /// A version that does not exist, or `vacate` in the first one.

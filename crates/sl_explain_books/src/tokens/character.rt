@@ -5,13 +5,14 @@ ghost use Rattle.sl_explain_texts.specs.declared.code.FaultCode.TheVariants.{B03
 
 use crate::meant::method_of;
 use crate::pieces::{character_len, piece, span_within};
-use crate::texts::{
+use crate::texts::meant::METHOD;
+use crate::texts::tokens::{
     ARITHMETIC, AT_SIGN, BLANK, BRACKETS, BYTE_IN_TEXT, COLON, COMMENT, COMPARED, CONTROL,
-    ENCODING, HYPHEN, IN_TEXT, INVISIBLE, LETTER, METHOD, NO_CHARACTER, NO_LETTER, PERCENT, PLAIN,
-    POINT, QUOTES, RIGHT_FILE, TEXT_LETTER, TEXT_PLAIN, UNDERSCORE, UNEXPECTED,
+    ENCODING, HYPHEN, IN_TEXT, INVISIBLE, LETTER, NO_CHARACTER, NO_LETTER, PERCENT, PLAIN, POINT,
+    QUOTES, RIGHT_FILE, TEXT_LETTER, TEXT_PLAIN, UNDERSCORE, UNEXPECTED,
 };
-use sl_explain_texts::{Explanation, FaultCode, Message, Sentence, Span, Speaker};
 use sl_base_quotients::NoMemory;
+use sl_explain_texts::{Explanation, FaultCode, Message, Sentence, Span, Speaker};
 
 // The letters that stand just before an offset.
 fn letters_before(text: &[u8], at: usize) -> &[u8] {

@@ -1,0 +1,19 @@
+//! Texts of further clauses that are refused.
+
+use sl_explain_texts::Message;
+
+pub(crate) const ALSO: Message = Message {
+    english: "also refused, with these clauses left out:",
+    german: "auch abgelehnt, wenn man diese Klauseln weglässt:",
+};
+
+// Values: the number of the line, and what is wrong there.
+pub(crate) const LINE: Message = Message {
+    english: "  line $: $",
+    german: "  Zeile $: $",
+};
+
+pub(crate) const MORE: Message = Message {
+    english: "  and $ more",
+    german: "  und $ weitere",
+};

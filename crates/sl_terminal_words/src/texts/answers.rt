@@ -1,0 +1,8 @@
+//! Texts of words that ask for no command.
+
+use sl_explain_texts::Message;
+
+pub(crate) const NO_MEMORY: Message = Message {
+    english: "error: out of memory\n",
+    german: "Fehler: der Speicher reicht nicht\n",
+};
