@@ -7,10 +7,12 @@ the gate.
 TESTS are programs of tests; without any, those of the crate sl_test_calls are proved and built first. To a test memory is
 refused between its marks (src/marks.rt there), to `seatlaw` from its start, and in each run to one allocation. A line says of a test that has
 marks, or of a command, in how many runs an allocation was refused, and how many runs did not pass; of these the first follows. A command
-passes if it ends as with ample memory, with its explanation or without, or writes nothing and says on standard error that it is out of memory, with status 5, or with
-status 1 where its words are still being read. The exit status is 0 if all passed. A C compiler, `cc`, is needed.
+passes if it ends as with ample memory, with its explanation or without, or writes nothing and says on standard error that it is out of
+memory, with status 5, in a line or with `--json` as JSON, or with status 1 where its words are still being read. The exit status is 0 if all
+passed. A C compiler, `cc`, is needed.
 """
 import argparse
+import json
 import os
 import pathlib
 import re
@@ -167,6 +169,14 @@ def judge_tests(count, program, shim, folder):
             count.add(test, *refuse_each(run, passes))
 
 
+def lacks_memory(ran, has_json):
+    """Whether a run says on standard error that it is out of memory: in a line, or once the words are read, with --json, as JSON."""
+    if has_json and ran.err.startswith("{"):
+        told = json.loads(ran.err)
+        return (ran.status, told["status"], told["fault"]) == (5, 5, "out of memory")
+    return (ran.status, ran.err.lower()) in ((5, "out of memory\n"), (1, "error: out of memory\n"))
+
+
 def judge_command(count, program, words, shim, folder):
     """Refuses memory to a command from its start."""
     def run(number):
@@ -183,7 +193,7 @@ def judge_command(count, program, words, shim, folder):
         said = (ample.err, re.split(r"(?:error(?:\[\w+\])?|warning\[\w+\]): ", ample.err)[0])
         if (ran.status, ran.out, ran.kept) == (ample.status, ample.out, ample.kept) and ran.err in said:
             return True
-        wanting = (ran.status, ran.err.lower()) in ((5, "out of memory\n"), (1, "error: out of memory\n"))
+        wanting = lacks_memory(ran, "--json" in words)
         # (the file of `code` is as it was, which is full from the run with ample memory, or was made and is empty)
         return wanting and ran.out == "" and (ran.kept in (b"", ample.kept) or ran.status == 1)
     count.add("seatlaw " + " ".join(words), *refuse_each(run, passes))
