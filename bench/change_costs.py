@@ -100,7 +100,9 @@ def main(names):
     for name in names or CHANGES:
         folder = CRATES / name
         checked(folder)
-        _, took, seconds, _ = checked(folder)
+        is_proved, took, seconds, told = checked(folder)
+        if not is_proved:
+            sys.exit(f"{name} is not proved as it stands: {told[-300:]}")
         print(f"{name}: unchanged {took:.0f} ({seconds:.0f})", flush=True)
         for change, way, what in zip(CHANGES[name], WAYS, ("body", "contract", "definition")):
             if change:

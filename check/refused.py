@@ -170,11 +170,16 @@ def judge_tests(count, program, shim, folder):
 
 
 def lacks_memory(ran, has_json):
-    """Whether a run says on standard error that it is out of memory: in a line, or once the words are read, with --json, as JSON."""
-    if has_json and ran.err.startswith("{"):
+    """Whether a run says on standard error that it is out of memory: while the words are read in a line, and then with --json as JSON."""
+    if ran.status == 1:
+        return ran.err.lower() == "error: out of memory\n"
+    if not has_json:
+        return (ran.status, ran.err.lower()) == (5, "out of memory\n")
+    try:
         told = json.loads(ran.err)
-        return (ran.status, told["status"], told["fault"]) == (5, 5, "out of memory")
-    return (ran.status, ran.err.lower()) in ((5, "out of memory\n"), (1, "error: out of memory\n"))
+    except ValueError:
+        return False
+    return (ran.status, told["status"], told["fault"]) == (5, 5, "out of memory")
 
 
 def judge_command(count, program, words, shim, folder):
