@@ -1,2 +1,3 @@
 pub mod NameLists
 pub mod Order
+pub mod WholeParts

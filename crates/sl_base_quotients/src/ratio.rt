@@ -2,6 +2,7 @@
 
 ghost use Rattle.std.specs.Prelude.{◌≡◌, ◌*◌, ◌^◌, ◌<◌, ◌≤◌, ◌↔◌, IsTrue};
 ghost use Rattle.sl_base_quotients.specs.Quotient.{FitsRatio, compare};
+ghost use Rattle.sl_base_quotients.specs.inner.Kept.{whole_part};
 
 use std::cmp::Ordering;
 use std::marker::Model;
@@ -12,6 +13,9 @@ pub const MAX_NUMERATOR: u128 = 10_000_000_000_000_000_000_000_000;
 /// The greatest denominator of a ratio.
 pub const MAX_DENOMINATOR: u128 = 1_000_000_000_000;
 
+// The greatest whole part that a ratio tells apart from smaller ones.
+const MAX_WHOLE_PART: u32 = u32::MAX;
+
 // How many values a word has: 2^64.
 const WORD: u128 = 1 << 64;
 
@@ -21,7 +25,9 @@ const WORD: u128 = 1 << 64;
 #[derive(Clone, Copy, PartialEq, Eq, Hash)]
 pub struct Ratio {
     // The numerator as two words: with a `u128`, which lies at a multiple of 16 bytes, an entry would take 48 bytes in place of 32.
-    high: u64,
+    high: u32,
+    // the whole part of the quotient, so that whoever compares mostly needs no products
+    whole: u32,
     low: u64,
     den: u64,
 }
@@ -41,6 +47,30 @@ impl Model for Ratio {
     ghost inverse_ok = { kept_again };
 }
 
+// The whole part of the quotient of two numbers.
+fn whole_part(num: u128, den: u128) -> u32
+    requires { den ≤ MAX_DENOMINATOR }
+    ensures { result ≡ whole_part (record { num = num; den = den }) }
+{
+    if den == 0 {
+        MAX_WHOLE_PART
+    } else if num < WORD {
+        (num as u64 / den as u64).min(u64::from(MAX_WHOLE_PART)) as u32
+    } else {
+        wide_whole_part(num, den)
+    }
+}
+
+// The same, where the numerator takes more than a word, as a square of votes may. It stands apart, so that the other case is short.
+#[cold]
+#[inline(never)]
+fn wide_whole_part(num: u128, den: u128) -> u32
+    requires { 0 < den }
+    ensures { result ≡ whole_part (record { num = num; den = den }) }
+{
+    (num / den).min(u128::from(MAX_WHOLE_PART)) as u32
+}
+
 impl Ratio {
     /// The ratio of `num` to `den`, which is infinite where `den` is 0.
     pub fn new(num: u128, den: u128) -> Ratio
@@ -50,7 +80,8 @@ impl Ratio {
         ensures value { result ≡ record { num = num; den = den } }
     {
         Ratio {
-            high: (num / WORD) as u64,
+            high: (num / WORD) as u32,
+            whole: whole_part(num, den),
             low: (num % WORD) as u64,
             den: den as u64,
         }
@@ -70,6 +101,15 @@ impl Ratio {
         ensures fits { FitsRatio self.now }
     {
         u128::from(self.den)
+    }
+
+    /// The whole part of the quotient, at most 2^32 - 1, as that of an infinite quotient is. Of two quotients the one with the greater
+    /// whole part is the greater.
+    pub fn whole(&self) -> u32
+        ensures value { result ≡ whole_part self.now }
+        ensures fits { FitsRatio self.now }
+    {
+        self.whole
     }
 
     /// Whether the quotient is infinite.

@@ -87,6 +87,15 @@ impl CellCursors {
         ensures { self.new ≡ record self.old { land = Some land } }
     {
         self.is_land_set = true;
+        self.move_land_on(land);
+    }
+
+    /// Moves the Land's cursor on to a number.
+    pub(crate) fn move_land_on(&mut self, land: usize)
+        requires set { IsSome self.old.land }
+        requires few { land < MAX_LANDS }
+        ensures { self.new ≡ record self.old { land = Some land } }
+    {
         self.row = land * self.parties;
         self.cells[LAND] = land;
         self.cells[LIST] = self.row + self.cells[PARTY];

@@ -1,6 +1,6 @@
 //! Columns: their cells at the cursors, zeros, and columns of the returns.
 
-ghost use Rattle.std.specs.Prelude.{◌≡◌, ◌<◌, Option, Some, IsSome, IfOk, length, map, slice_get, slice_index};
+ghost use Rattle.std.specs.Prelude.{◌≡◌, ◌<◌, ◌≤◌, ◌+◌, ℕ, Option, Some, IsSome, IfOk, length, map, slice_get, slice_index};
 ghost use Rattle.std.specs.List.{range_with_len};
 ghost use Rattle.sl_code_semantics.specs.declared.known.TheConstants.{REGISTERS};
 ghost use Rattle.sl_code_semantics.specs.Needs.{input_shape};
@@ -13,32 +13,59 @@ ghost use Rattle.sl_code_semantics.specs.Places.{cells_of};
 ghost use Rattle.sl_code_semantics.specs.Effects.{Goes, effect, input_of, names_or_most};
 ghost use Rattle.sl_code_semantics.specs.Safe.{IsInRange};
 ghost use Rattle.sl_code_semantics.specs.Seen.{place_at};
+ghost use Rattle.sl_code_steps.specs.inner.Columns.{IsListAt};
 ghost use Rattle.sl_code_steps.specs.inner.Stores.{state_of, sizes_of, sizes_for, effect_of};
 
+use crate::column::MOST_CELLS;
 use crate::step::Effect;
 use crate::store::Store;
 use sl_base_quotients::NoMemory;
 use sl_code_instructions::{Code, Input};
 use sl_stages::Returns;
 
-// A cell of a column of the returns.
-fn input_cell(returns: &Returns, input: Input, place: usize) -> u64
-    requires { place < cells_of returns.now (input_shape input) }
+// A list, by the numbers of its Land and its party.
+#[derive(Clone, Copy)]
+struct ListAt {
+    land: usize,
+    party: usize,
+}
+
+impl ListAt {
+    // The list whose cell is the one after this one's, among so many parties.
+    fn next(self, parties: usize) -> ListAt
+        requires land { self.land < MOST_CELLS }
+        requires party { self.party < MOST_CELLS }
+        ensures next { (place : ℕ) → IsListAt parties place self → IsListAt parties (place + 1) result }
+        ensures land { result.land ≤ self.land + 1 }
+        ensures party { result.party ≤ self.party + 1 }
+    {
+        let party = self.party + 1;
+        if party == parties {
+            ListAt {
+                land: self.land + 1,
+                party: 0,
+            }
+        } else {
+            ListAt {
+                land: self.land,
+                party,
+            }
+        }
+    }
+}
+
+// A cell of a column of the returns. Where it is a column of lists, the list is that of the place.
+fn input_cell(returns: &Returns, input: Input, place: usize, list: ListAt) -> u64
+    requires place { place < cells_of returns.now (input_shape input) }
+    requires list { IsListAt (parties_of returns.now) place list }
     ensures { result ≡ input_of returns.now input place }
 {
     match input {
-        Input::Valid => {
-            u64::from(returns.valid(place / returns.parties(), place % returns.parties()))
-        }
-        Input::Counted => {
-            u64::from(returns.counted(place / returns.parties(), place % returns.parties()))
-        }
+        Input::Valid => u64::from(returns.valid(list.land, list.party)),
+        Input::Counted => u64::from(returns.counted(list.land, list.party)),
         Input::Minority => u64::from(returns.minority(place)),
         Input::Population => u64::from(returns.population(place)),
-        Input::Names => names_or_most(returns.slate(
-            place / returns.parties(),
-            place % returns.parties(),
-        )),
+        Input::Names => names_or_most(returns.slate(list.land, list.party)),
     }
 }
 
@@ -57,8 +84,11 @@ pub(crate) fn read_input(column: &mut [u64], returns: &Returns, input: Input)
     requires { length column.old ≡ cells_of returns.now (input_shape input) }
     ensures { column.new ≡ map (input_of returns.now input) (range_with_len 0 (cells_of returns.now (input_shape input))) }
 {
+    let parties = returns.parties();
+    let mut list = ListAt { land: 0, party: 0 };
     for (place, cell) in column.iter_mut().enumerate() {
-        *cell = input_cell(returns, input, place);
+        *cell = input_cell(returns, input, place, list);
+        list = list.next(parties);
     }
 }
 

@@ -224,7 +224,7 @@ impl Store {
         let count = returns.lands();
         let next = self.cursors.cells.cell(Shape::Land) + 1;
         if next < count {
-            self.cursors.cells.set_land(next);
+            self.cursors.cells.move_land_on(next);
             Effect::Jumps(target)
         } else {
             self.cursors.cells.clear_land();

@@ -120,12 +120,22 @@ impl Store {
             Instr::Fwin(target) => self.first_win(returns, target),
             Instr::Nwin(target) => self.next_win(returns, target),
             Instr::Table(entries, ranking) => self.open_table(entries, ranking),
-            Instr::Prio(method, weight, seats) => self.enter_quotient(
-                returns, method, weight, seats,
-            )?,
-            Instr::Rest(register) => self.enter_remainder(returns, register)?,
-            Instr::Lead => self.enter_lead(returns)?,
-            Instr::Share => self.enter_share(returns)?,
+            Instr::Prio(method, weight, seats) => {
+                self.enter_quotient(returns, method, weight, seats)?;
+                Effect::Goes
+            }
+            Instr::Rest(register) => {
+                self.enter_remainder(returns, register)?;
+                Effect::Goes
+            }
+            Instr::Lead => {
+                self.enter_lead(returns)?;
+                Effect::Goes
+            }
+            Instr::Share => {
+                self.enter_share(returns)?;
+                Effect::Goes
+            }
             Instr::Peers(register, target) => self.count_peers(register, target),
             Instr::Take => self.take_top(returns),
             Instr::Lot(stage, target) => self.jump_without_lot(code, stage, target),

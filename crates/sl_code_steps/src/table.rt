@@ -39,12 +39,12 @@ impl Store {
     }
 
     // Enters the cursors' entry.
-    fn enter(&mut self, returns: &Returns, ratio: Ratio) -> Result<Effect, NoMemory>
+    fn enter(&mut self, returns: &Returns, ratio: Ratio) -> Result<(), NoMemory>
         requires entry { IsSome (entry_at returns.now (state_of self.old)) }
         requires election { IsElection returns.now }
         requires fits { ForSome self.old.table.on (λ t. FitsMark t.ranking ratio) }
         requires range { IsInRange returns.now (state_of self.old) }
-        ensures follows { IfOk result (λ next. effect_of next (state_of self.new) ≡ puts_in returns.now ratio (state_of self.old)) }
+        ensures follows { IfOk result (λ done. Goes (state_of self.new) ≡ puts_in returns.now ratio (state_of self.old)) }
         ensures kept { sizes_of self.new ≡ sizes_of self.old }
     {
         let entries = self.table.entries().unwrap();
@@ -53,7 +53,7 @@ impl Store {
             ratio,
             index: index as u32,
         })?;
-        Ok(Effect::Goes)
+        Ok(())
     }
 
     /// Enters the cursors' entry with the quotient of a method.
@@ -63,7 +63,7 @@ impl Store {
         method: Divisor,
         weight: u8,
         seats: u8,
-    ) -> Result<Effect, NoMemory>
+    ) -> Result<(), NoMemory>
         requires weight { weight < REGISTERS }
         requires seats { seats < REGISTERS }
         requires positive { 0 < (state_of self.old).registers weight }
@@ -71,7 +71,7 @@ impl Store {
         requires ranking { ForSome self.old.table.on (λ t. t.ranking ≡ ranking.Quotients) }
         requires entry { IsSome (entry_at returns.now (state_of self.old)) }
         requires range { IsInRange returns.now (state_of self.old) }
-        ensures follows { IfOk result (λ next. let s = state_of self.old in effect_of next (state_of self.new)
+        ensures follows { IfOk result (λ done. let s = state_of self.old in Goes (state_of self.new)
             ≡ puts_in returns.now (quotient method (min (s.registers weight) MAX_WEIGHT) (min (s.registers seats) MAX_SEATS)) s) }
         ensures kept { sizes_of self.new ≡ sizes_of self.old }
     {
@@ -85,12 +85,12 @@ impl Store {
         &mut self,
         returns: &Returns,
         register: u8,
-    ) -> Result<Effect, NoMemory>
+    ) -> Result<(), NoMemory>
         requires register { register < REGISTERS }
         requires election { IsElection returns.now }
         requires entry { IsSome (entry_at returns.now (state_of self.old)) }
         requires range { IsInRange returns.now (state_of self.old) }
-        ensures follows { IfOk result (λ next. let s = state_of self.old in effect_of next (state_of self.new)
+        ensures follows { IfOk result (λ done. let s = state_of self.old in Goes (state_of self.new)
             ≡ puts_in returns.now (record { num = s.registers register + 1; den = 1 }) s) }
         ensures kept { sizes_of self.new ≡ sizes_of self.old }
     {
@@ -99,23 +99,23 @@ impl Store {
     }
 
     /// Enters the cursors' entry ahead of all remainders.
-    pub(crate) fn enter_lead(&mut self, returns: &Returns) -> Result<Effect, NoMemory>
+    pub(crate) fn enter_lead(&mut self, returns: &Returns) -> Result<(), NoMemory>
         requires election { IsElection returns.now }
         requires entry { IsSome (entry_at returns.now (state_of self.old)) }
         requires range { IsInRange returns.now (state_of self.old) }
-        ensures follows { IfOk result (λ next. effect_of next (state_of self.new) ≡ puts_in returns.now (record { num = 1; den = 0 }) (state_of self.old)) }
+        ensures follows { IfOk result (λ done. Goes (state_of self.new) ≡ puts_in returns.now (record { num = 1; den = 0 }) (state_of self.old)) }
         ensures kept { sizes_of self.new ≡ sizes_of self.old }
     {
         self.enter(returns, Ratio::new(1, 0))
     }
 
     /// Enters the winner with the share of first votes.
-    pub(crate) fn enter_share(&mut self, returns: &Returns) -> Result<Effect, NoMemory>
+    pub(crate) fn enter_share(&mut self, returns: &Returns) -> Result<(), NoMemory>
         requires win { IsSome (state_of self.old).win }
         requires election { IsElection returns.now }
         requires entry { IsSome (entry_at returns.now (state_of self.old)) }
         requires range { IsInRange returns.now (state_of self.old) }
-        ensures follows { IfOk result (λ next. let s = state_of self.old in effect_of next (state_of self.new)
+        ensures follows { IfOk result (λ done. let s = state_of self.old in Goes (state_of self.new)
             ≡ given (winner_at returns.now s) (λ w. puts_in returns.now (record { num = w.first; den = w.valid }) s)) }
         ensures kept { sizes_of self.new ≡ sizes_of self.old }
     {

@@ -16,7 +16,7 @@ ghost use Rattle.sl_code_steps.specs.inner.Stores.{state_of, sizes_of, sizes_for
 ghost use Rattle.sl_machine.specs.inner.Ways.{IsWay};
 
 use crate::clock::Clock;
-use crate::way::{Standing, Way, first_of};
+use crate::way::{Standing, Way, behind, first_of};
 use sl_base_quotients::NoMemory;
 use sl_code_instructions::{Code, Instr};
 use sl_code_semantics::{STEPS_EACH, Verified};
@@ -79,9 +79,9 @@ fn step_from<'a, R: Recording>(
     ensures stops { IfOk result (λ next. IfNone next ((clock.new ≡ clock.old) × (IsOut clock.old ahead.now ⊎ (EndsFirst ahead.now × (store.new ≡ store.old))))) }
     ensures kept { sizes_of store.new ≡ sizes_of store.old }
 {
-    let (here, others) = first_of(ahead);
+    let here = first_of(ahead);
     match store.step::<R>(code, returns, &here.instr)? {
-        Some(Effect::Goes) => Ok(Some(others)),
+        Some(Effect::Goes) => Ok(Some(behind(ahead, 1))),
         Some(Effect::Jumps(target)) => match clock.after_jump(here.place, target as usize) {
             Some(after) => {
                 *clock = after;
@@ -134,7 +134,7 @@ fn steps<R: Recording>(
         match step_from::<R>(store, code, returns, way, &mut clock, ahead)? {
             Some(next) => ahead = next,
             None => {
-                let place = first_of(ahead).0.place;
+                let place = first_of(ahead).place;
                 if clock.is_out(place) {
                     return Ok(None);
                 }

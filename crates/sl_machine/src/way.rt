@@ -52,20 +52,20 @@ fn add<R: Recording>(
     Ok(())
 }
 
-// Those after so many.
-fn behind(standing: &[Standing], count: usize) -> &[Standing]
+/// Those after so many.
+pub(crate) fn behind(standing: &[Standing], count: usize) -> &[Standing]
     requires { count ≤ length standing.now }
     ensures { result.now ≡ drop count standing.now }
 {
     &standing[count..]
 }
 
-/// The first of those ahead, and the others.
-pub(crate) fn first_of(ahead: &[Standing]) -> (&Standing, &[Standing])
+/// The first of those ahead.
+pub(crate) fn first_of(ahead: &[Standing]) -> &Standing
     requires { 0 < length ahead.now }
-    ensures { ahead.now ≡ result.0.now ∷ result.1.now }
+    ensures { ahead.now ≡ result.now ∷ drop 1 ahead.now }
 {
-    (&ahead[0], behind(ahead, 1))
+    &ahead[0]
 }
 
 impl Way {

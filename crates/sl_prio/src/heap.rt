@@ -17,8 +17,20 @@ pub(crate) fn across(ratio: &Ratio, other: &Ratio) -> u128
     ratio.num() * u128::from(other.den() as u64)
 }
 
-// Whether an entry is greater than another. All but those with equal quotients are distinguished by these.
+// Whether an entry is greater than another. Mostly the whole parts of their quotients tell.
 fn exceeds(entry: &Entry, other: &Entry) -> bool
+    ensures { result ≡ is_gt (entry_cmp entry.now other.now) }
+{
+    let mine = entry.ratio.whole();
+    let its = other.ratio.whole();
+    if mine == its {
+        return exceeds_by_products(entry, other);
+    }
+    mine > its
+}
+
+// The same by cross products. All but entries with equal quotients are distinguished by these.
+fn exceeds_by_products(entry: &Entry, other: &Entry) -> bool
     ensures { result ≡ is_gt (entry_cmp entry.now other.now) }
 {
     let mine = across(&entry.ratio, &other.ratio);

@@ -12,11 +12,13 @@ use crate::lot::{is_named, lot_cmp, mark, unmark};
 use crate::places::note;
 use sl_base_quotients::Entry;
 
-// Whether an entry has the quotient of the top.
+// Whether an entry has the quotient of the top. Mostly it has another whole part.
+#[tactic(auto, using(sl_base_quotients::proofs::WholeParts::unequal_by_wholes))]
 pub(crate) fn is_peer(top: &Entry, entry: &Entry) -> bool
     ensures { result ≡ has_quotient_of top.now entry.now }
 {
-    across(&top.ratio, &entry.ratio) == across(&entry.ratio, &top.ratio)
+    top.ratio.whole() == entry.ratio.whole()
+        && across(&top.ratio, &entry.ratio) == across(&entry.ratio, &top.ratio)
 }
 
 // The entry at a place, where it is a peer. Where it is none, there is none below it.

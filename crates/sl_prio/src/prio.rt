@@ -131,6 +131,9 @@ impl Prio {
         let Some(top) = self.entries.first() else {
             return Some(1);
         };
+        if entry.ratio.whole() < top.ratio.whole() {
+            return None;
+        }
         let mine = across(&entry.ratio, &top.ratio);
         let its = across(&top.ratio, &entry.ratio);
         if mine < its {

@@ -1,5 +1,5 @@
 -- The run begins, and where it goes on no further it has ended, or its steps have run out.
-use Rattle.std.proofs.Common.{◌≡◌, ℕ, suc, ◌-◌, List, sym, ap, subst, ◌∙◌}
+use Rattle.std.proofs.Common.{◌≡◌, ℕ, suc, ◌-◌, List, drop, sym, ap, subst, ◌∙◌}
 use Rattle.sl_code_semantics.specs.Runs.{run}
 use Rattle.sl_code_steps.specs.declared.store.Store.{Store}
 use Rattle.sl_machine.specs.declared.way.Standing.{Standing}
@@ -20,11 +20,11 @@ returns-in-None-clause-end g c =
     let code = c.args.code.now in
     let e = c.args.returns.now in
     let l = c.loop-next in
-    let here = c.first_of.result.0.now in
+    let here = c.first_of.result.now in
     let s = state_of l.store in
     let same = subst (λ (xs : List Standing). ending_by k (run code e c.args.budget 0 (state_of c.args.store.now)) ≡ rest_of k code e l.clock xs s) c.first_of.ensures l.invariant.same in
     let stops = rw c.in-None.is at c.in_ok-next.ensures.stops in
-    let was = ends_as_it_was l.clock c.step_from.new.clock l.ahead.now here c.first_of.result.1.now l.store c.step_from.new.store c.first_of.ensures stops.0 c.if-is_out.ensures.1 stops.1 in
+    let was = ends_as_it_was l.clock c.step_from.new.clock l.ahead.now here (drop 1 l.ahead.now) l.store c.step_from.new.store c.first_of.ensures stops.0 c.if-is_out.ensures.1 stops.1 in
     same ∙ ap (λ (n : ℕ). ending_by k (run code e n here.place s)) was.0
     ∙ ap (λ (x : Store). ending_by k (run code e (suc (steps_left l.clock here.place - 1)) here.place (state_of x))) (sym was.1)
     ∙ c.in_ok-end_at-in-None.ensures.ends.1 (steps_left l.clock here.place - 1)
