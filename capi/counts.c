@@ -2,16 +2,8 @@
 #include "seatlaw.h"
 
 #include <stdlib.h>
-#include <string.h>
-#include "exports.h"
 
-enum { DIGITS = 10, LEAST_TABLE = 1 << 14, GREATER = 8 };
-#define MOST_TABLE ((size_t)1 << 29)
-
-struct room {
-    char *bytes;
-    size_t length;
-};
+enum { DIGITS = 10 };
 
 // Writes a number in decimal digits, and answers where they end.
 static char *put_number(char *at, uint32_t number) {
@@ -37,10 +29,14 @@ static size_t put_returns(char *text, const struct seatlaw_template *returns, co
     return at + (returns->length - from) - text;
 }
 
-// Reads digits into a number, and answers where they end.
+// Reads digits into a number, and answers where they end, or NULL where they are more than it can be.
 static const char *read_number(const char *at, int32_t *number) {
-    *number = 0;
-    for (; *at >= '0' && *at <= '9'; at++) *number = *number * 10 + (*at - '0');
+    int64_t value = 0;
+    for (; *at >= '0' && *at <= '9'; at++) {
+        value = value * 10 + (*at - '0');
+        if (value > INT32_MAX) return NULL;
+    }
+    *number = (int32_t)value;
     return at;
 }
 
@@ -55,53 +51,44 @@ static int numbers_of(const char *line) {
     return *line == 't' ? 1 : *line == 'p' || *line == 'l' ? 2 : 0;
 }
 
-// Reads the numbers of a table into a row of seats, and answers whether they are as many as the row has.
-static int read_table(const char *text, size_t length, int32_t *seats, size_t width) {
+// Reads the numbers of a table into a row of seats, and answers whether they are as many as the row has. The byte after the table is no digit.
+static int read_table(struct seatlaw_text table, int32_t *seats, size_t width) {
     size_t filled = 0;
-    const char *end = text + length;
-    for (const char *line = text; line < end;) {
+    const char *end = table.bytes + table.length;
+    for (const char *line = table.bytes; line < end;) {
         const char *next = memchr(line, '\n', end - line);
         if (!next) return 0;
         int numbers = numbers_of(line);
         const char *at = last_words(line, next, numbers);
         for (int i = 0; i < numbers; i++, at++) {
-            if (filled == width) return 0;
-            at = read_number(at, &seats[filled++]);
+            if (filled == width || !(at = read_number(at, &seats[filled++]))) return 0;
         }
         line = next + 1;
     }
     return filled == width;
 }
 
-// Counts a row's returns with a room for the table, which grows where it is too small. The byte after the table is no digit.
-static uint32_t counted(const char *book, size_t book_length, struct room *text, size_t length, struct room *table, size_t *count) {
-    for (;;) {
-        uint32_t status = page_count(book, book_length, text->bytes, length, table->bytes, table->length, count);
-        if (status != SEATLAW_NO_ROOM || table->length >= MOST_TABLE) return status;
-        char *greater = realloc(table->bytes, table->length * GREATER);
-        if (!greater) return SEATLAW_NO_MEMORY;
-        *table = (struct room){greater, table->length * GREATER};
-    }
+// Counts returns, reads the numbers of their table into a row of seats, and answers the status.
+static uint32_t counted(struct seatlaw_text book, struct seatlaw_text returns, int32_t *seats, size_t width) {
+    const struct seatlaw_text words[] = {seatlaw_string("count"), seatlaw_string("--quiet"), seatlaw_string("book"), seatlaw_string("returns")};
+    const struct seatlaw_file files[] = {{words[2], book}, {words[3], returns}};
+    struct seatlaw_reply reply;
+    uint32_t status = seatlaw_ask(words, 4, files, 2, &reply);
+    if (status == SEATLAW_DONE && !read_table(reply.out, seats, width)) status = SEATLAW_OTHER_SHAPE;
+    seatlaw_free(&reply);
+    return status;
 }
 
-static void leave_out(int32_t *seats, size_t width) {
-    for (size_t i = 0; i < width; i++) seats[i] = -1;
-}
-
-enum seatlaw_status seatlaw_counts(const char *book, size_t book_length, const struct seatlaw_template *returns, const uint32_t *numbers,
-                                   size_t rows, int32_t *seats, size_t seats_width, uint8_t *statuses) {
-    size_t length = returns->length + returns->count * DIGITS;
-    struct room text = {malloc(length + 1), length}, table = {malloc(LEAST_TABLE), LEAST_TABLE};
-    int has_room = text.bytes && table.bytes;
+enum seatlaw_status seatlaw_counts(struct seatlaw_text book, const struct seatlaw_template *returns, const uint32_t *numbers, size_t rows,
+                                   int32_t *seats, size_t seats_width, uint8_t *statuses) {
+    char *text = malloc(returns->length + returns->count * DIGITS + 1);
     for (size_t row = 0; row < rows; row++, numbers += returns->width, seats += seats_width) {
-        uint32_t status = SEATLAW_NO_MEMORY;
-        size_t count = 0;
-        if (has_room) status = counted(book_length ? book : "", book_length, &text, put_returns(text.bytes, returns, numbers), &table, &count);
-        if (status == SEATLAW_DONE && !read_table(table.bytes, count, seats, seats_width)) status = SEATLAW_OTHER_SHAPE;
-        if (status != SEATLAW_DONE) leave_out(seats, seats_width);
-        statuses[row] = status;
+        uint32_t status = SEATLAW_FAILED;
+        if (text) status = counted(book, (struct seatlaw_text){text, put_returns(text, returns, numbers)}, seats, seats_width);
+        for (size_t i = 0; status != SEATLAW_DONE && i < seats_width; i++) seats[i] = -1;
+        statuses[row] = (uint8_t)status;
     }
-    free(text.bytes);
-    free(table.bytes);
-    return has_room ? SEATLAW_DONE : SEATLAW_NO_MEMORY;
+    enum seatlaw_status all = text ? SEATLAW_DONE : SEATLAW_FAILED;
+    free(text);
+    return all;
 }

@@ -1,132 +1,72 @@
-/* seatlaw as a library: the proved calls over memory of the host's.
+/* seatlaw as a library: each command of the program, over memory of the host's.
  *
- * What is the same for all calls:
- *
- * - An input is an address and a length in bytes; the address of no bytes may be NULL. No byte of an input is changed or kept. An input of
- *   an option, as the names of `seatlaw_report`, is left out by no bytes.
- * - A call answers a status and fills `answer`, whatever stood there before. The bytes of an answer are the caller's, who gives them back by
- *   `seatlaw_free`. A byte 0 stands behind the last one, and is not in the length. With a status from 5 on there are no bytes: the address is
- *   NULL and the length 0.
- * - Any number of threads may call at once, with the same inputs too, as long as each has an answer of its own. Nothing is kept between calls.
- * - A call reads no file, no clock and no environment. It takes memory by malloc and gives all of it back but the answer.
+ * - A request is what stands on the program's command line, and the files that it may name. The reply is what the program writes for files of these
+ *   names, byte for byte, with its exit status. No file, no clock and no environment is read.
+ * - No input is changed or kept. The address of no bytes, of no words and of no files may be NULL.
+ * - A call takes memory by malloc, and gives all of it back but the reply, which the caller gives back by `seatlaw_free`.
+ * - Any number of threads may call at once, with the same inputs too, as long as each has a reply of its own. Nothing is kept between calls.
  * - The stack of the calling thread must have 1 MiB left.
  *
- * What is proved of a call is said by the name of a definition; docs/library.md of the repository tells more.
+ * What is proved of the calls is said in docs/library.md of the repository.
  */
 #ifndef SEATLAW_H
 #define SEATLAW_H
 
 #include <stddef.h>
 #include <stdint.h>
+#include <string.h>
 
 #ifdef __cplusplus
 extern "C" {
 #endif
 
-/* Statuses 0, 2, 3 and 4 are the exit statuses of the program. */
+/* All but the last are the exit statuses of the program. */
 enum seatlaw_status {
-    SEATLAW_DONE = 0,        /* the text that was asked for */
-    SEATLAW_REFUSED = 2,     /* an input is not in order; the text is one line that begins with `refused`, or of a report, of totals and of a
-                              * comparison their JSON, or of an explanation what it says */
-    SEATLAW_LEGAL_FAULT = 3, /* the rulebook has no table for these returns, as at a tie without a lot; one line that
-                              * begins with `fault`, or of a report its JSON */
-    SEATLAW_OUT_OF_BUDGET = 4, /* of `seatlaw_run` and `seatlaw_explain_run` alone: the run needs more steps than it may take, as that of no
-                              * rulebook's code does; the line `out of budget` */
-    SEATLAW_NO_MEMORY = 5,   /* malloc gave no memory */
-    SEATLAW_NO_ROOM = 6,     /* the text has more than 256 MiB; no input within the limits is known to come to this */
-    SEATLAW_NO_NAME = 7,     /* the name of a stage or of a statute, the code of a fault, or the words of `seatlaw_compare` are no UTF-8 */
-    SEATLAW_OTHER_SHAPE = 8  /* of `seatlaw_counts` alone: the table of a row has not so many numbers as a row of seats */
+    SEATLAW_DONE = 0,
+    SEATLAW_WRONG_WORDS = 1,   /* the words are refused, or malloc gave no memory to read them; `err` says which */
+    SEATLAW_REFUSED = 2,       /* an input is not in order; `out` is a line that begins with `refused`, or JSON that has it */
+    SEATLAW_LEGAL_FAULT = 3,   /* the rulebook has no table for these returns, as at a tie without a lot; the line begins with `fault` */
+    SEATLAW_OUT_OF_BUDGET = 4, /* of `run`: the code needs more steps than it may take, as that of no rulebook does */
+    SEATLAW_FAILED = 5,        /* a file that the words name is not there, as `err` says, or malloc gave no memory */
+    SEATLAW_OTHER_SHAPE = 8    /* of `seatlaw_counts` alone: the numbers of a table do not fill a row of seats */
 };
 
-/* A text that a call made. */
+/* Bytes, and how many. One of a reply has a byte 0 behind its last one, which is not counted. */
 struct seatlaw_text {
-    char *bytes;
+    const char *bytes;
     size_t length;
 };
 
-/* Gives the bytes of an answer back, and leaves an answer of no bytes. An answer of no bytes may be given back too. */
-void seatlaw_free(struct seatlaw_text *answer);
-
-/* Where each part of an answer of `seatlaw_show` ends. The first begins with the answer, and each other one where the one before it ends. */
-struct seatlaw_parts {
-    size_t seats, steps, report, stages, totals, explanation;
+/* A file that words may name, and its bytes. */
+struct seatlaw_file {
+    struct seatlaw_text name, bytes;
 };
 
-/* Counts once, and hands over all that comes of it, one text behind the other, with the places of their ends: what `seatlaw_count` and
- * `seatlaw_steps` answer, the JSON of `seatlaw report`, of `seatlaw stages` and of `seatlaw totals` with the rulebook, and the explanation. The
- * sentences of the last four are in German where the language is `de`, and else in English. Refused names are in the parts of JSON, and change no
- * status. Proved: `ShowsAll`. */
-enum seatlaw_status seatlaw_show(const char *language, size_t language_length, const char *book, size_t book_length, const char *returns,
-                                 size_t returns_length, const char *names, size_t names_length, struct seatlaw_text *answer,
-                                 struct seatlaw_parts *ends);
+/* What came of a request: what the program writes to standard output and to standard error, and the bytes of the file that `code` makes. */
+struct seatlaw_reply {
+    uint32_t status;
+    struct seatlaw_text out, err, made;
+};
 
-/* The seat table of these returns by this rulebook, as `seatlaw count` writes it. Proved: `IsOutput ShowsSeats`. */
-enum seatlaw_status seatlaw_count(const char *book, size_t book_length, const char *returns, size_t returns_length,
-                                  struct seatlaw_text *answer);
+/* Does what the words behind the program's name ask for: `count`, `book`, `returns`, `--lang`, `de`, say.
+ *
+ * A word that names a file is looked up among the files; of two of one name the first counts. A word with an @ before it names a statute of the
+ * library, as ever. The file OUT of `code` is not among the files: its bytes come in `made`. The language is English unless `--lang` says another.
+ * Fills the reply, whatever stood there before, and answers its status. */
+enum seatlaw_status seatlaw_ask(const struct seatlaw_text *words, size_t words_length, const struct seatlaw_file *files, size_t files_length,
+                                struct seatlaw_reply *reply);
 
-/* Each seat with the step that won it, the bounds of the divisors, and the seat table. Proved: `IsOutput ShowsSteps`. */
-enum seatlaw_status seatlaw_steps(const char *book, size_t book_length, const char *returns, size_t returns_length,
-                                  struct seatlaw_text *answer);
+/* Gives the texts of a reply back, and leaves texts of no bytes. */
+void seatlaw_free(struct seatlaw_reply *reply);
 
-/* The column of the stage of that name. Proved: `IsStageOutput`. */
-enum seatlaw_status seatlaw_stage(const char *book, size_t book_length, const char *returns, size_t returns_length,
-                                  const char *name, size_t name_length, struct seatlaw_text *answer);
-
-/* The line of a good rulebook, or its refusal. Proved: `IsCheckOutput`. */
-enum seatlaw_status seatlaw_check(const char *book, size_t book_length, struct seatlaw_text *answer);
-
-/* The names of the statutes of the library, a line each. They are those of the table of which the proved calls are made. */
+/* The names of the statutes of the library, a line each. */
 const char *seatlaw_statutes(void);
 
-/* The text of the statute of that name, without an @. Proved: `IsLawOutput`. */
-enum seatlaw_status seatlaw_law(const char *name, size_t name_length, struct seatlaw_text *answer);
-
-/* Where the two parts of an answer of `seatlaw_code` end. The file begins with the answer, and the listing where the file ends. */
-struct seatlaw_code_parts {
-    size_t file, listing;
-};
-
-/* Compiles a rulebook. The answer has the bytes of the code file, and behind them what `seatlaw code` writes: the listing of the code, or for a
- * refused rulebook no file and the line that refuses it. Proved: `HandsCode`, which says `IsCompilingOutput` of both. */
-enum seatlaw_status seatlaw_code(const char *book, size_t book_length, struct seatlaw_text *answer, struct seatlaw_code_parts *ends);
-
-/* What the run of these bytes of a code file on returns comes to, as `seatlaw run` writes it. Proved: `IsRunCode`. */
-enum seatlaw_status seatlaw_run(const char *code, size_t code_length, const char *returns, size_t returns_length,
-                                struct seatlaw_text *answer);
-
-/* The JSON of `seatlaw report` (docs/report.schema.json of the repository), its sentences in English; `names` is a file of full names, or no bytes.
- * A refusal and a legal fault are JSON too, with the line and the explanation. Proved: the status (`IsReported`). */
-enum seatlaw_status seatlaw_report(const char *book, size_t book_length, const char *returns, size_t returns_length,
-                                   const char *names, size_t names_length, struct seatlaw_text *answer);
-
-/* The JSON of `seatlaw totals`, in English and also of a refusal; the rulebook may be no bytes. Proved: the status (`AreTotalled`). */
-enum seatlaw_status seatlaw_totals(const char *book, size_t book_length, const char *returns, size_t returns_length,
-                                   const char *names, size_t names_length, struct seatlaw_text *answer);
-
-/* The JSON of `seatlaw compare`, in English and also of a refusal, by the rulebooks of `words`, one on each line: a word with @ is that of a statute,
- * any other that of `book`. Proved: the status (`IsCompared`). */
-enum seatlaw_status seatlaw_compare(const char *words, size_t words_length, const char *book, size_t book_length,
-                                    const char *returns, size_t returns_length, const char *names, size_t names_length,
-                                    struct seatlaw_text *answer);
-
-/* Why `seatlaw_check` refuses a rulebook, in German where the language is `de` and else in English, as the program writes it to standard error
- * for a file called book; no bytes for a good one. The status is that of `seatlaw_check`. Proved: the status, and when there is nothing to explain
- * (`TellsCheck`). */
-enum seatlaw_status seatlaw_explain_check(const char *language, size_t language_length, const char *book, size_t book_length,
-                                          struct seatlaw_text *answer);
-
-/* The same of `seatlaw_count`, for files called book and returns. Proved: the same (`TellsCount`). */
-enum seatlaw_status seatlaw_explain_count(const char *language, size_t language_length, const char *book, size_t book_length,
-                                          const char *returns, size_t returns_length, struct seatlaw_text *answer);
-
-/* The same of `seatlaw_run`, for files called code and returns. Proved: the same (`TellsRun`). */
-enum seatlaw_status seatlaw_explain_run(const char *language, size_t language_length, const char *code, size_t code_length,
-                                        const char *returns, size_t returns_length, struct seatlaw_text *answer);
-
-/* What the code of a fault means, such as B15, as `seatlaw explain` writes it in that language; SEATLAW_REFUSED and no bytes where there is no such
- * code. Proved: the status, and that there are no bytes without a code (`TellsCode`). */
-enum seatlaw_status seatlaw_explain_code(const char *language, size_t language_length, const char *word, size_t word_length,
-                                         struct seatlaw_text *answer);
+/* The text of a string that ends with a byte 0, as a word is. */
+static inline struct seatlaw_text seatlaw_string(const char *string) {
+    struct seatlaw_text text = {string, strlen(string)};
+    return text;
+}
 
 /* Returns in which numbers are left open: a text with places, and for each place the column of its number in a row of numbers. */
 struct seatlaw_template {
@@ -138,17 +78,17 @@ struct seatlaw_template {
     size_t width;            /* how many numbers a row has */
 };
 
-/* Counts, for each row of numbers, the returns that have the row's numbers at their places, by `seatlaw_count`.
+/* Counts, for each row of numbers, the returns that have the row's numbers at their places.
  *
  * The numbers of all rows stand in sequence, `rows` times `returns->width`. Of a row with a table, `statuses` gets 0, and `seats` gets
  * the numbers of its lines `total`, `party` and `list`, in their order: one of the total, and of each party and each list its seats and its
- * winners. They must be `seats_width` numbers, or the status is SEATLAW_OTHER_SHAPE. Of any other row `statuses` gets its status, and `seats`
- * gets -1 everywhere. The rows are counted one after the other; calls on parts of the rows may run at once.
+ * winners. They must be `seats_width` numbers, or the status is SEATLAW_OTHER_SHAPE. Of any other row `statuses` gets the status of `count`, and
+ * `seats` gets -1 everywhere. The rows are counted one after the other; calls on parts of the rows may run at once.
  *
- * Answers SEATLAW_NO_MEMORY where there was no room to begin with, and else SEATLAW_DONE. What stands between the numbers of a row, the text
+ * Answers SEATLAW_FAILED where there was no room to begin with, and else SEATLAW_DONE. What stands between the numbers of a row, the text
  * that is counted, and the numbers of its table is C, and not proved. */
-enum seatlaw_status seatlaw_counts(const char *book, size_t book_length, const struct seatlaw_template *returns, const uint32_t *numbers,
-                                   size_t rows, int32_t *seats, size_t seats_width, uint8_t *statuses);
+enum seatlaw_status seatlaw_counts(struct seatlaw_text book, const struct seatlaw_template *returns, const uint32_t *numbers, size_t rows,
+                                   int32_t *seats, size_t seats_width, uint8_t *statuses);
 
 #ifdef __cplusplus
 }

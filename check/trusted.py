@@ -18,14 +18,14 @@ from repository import CRATES, TOP  # noqa: E402
 
 PAGE = TOP / "docs" / "trusted.md"
 CALLS = ["count", "steps", "stage", "show", "check_book", "code", "run_code", "law_text"]
-# The crate and the call of each command that reports, and of each program (from words to an exit status, and from a request), with the word that the
-# page has for it. `stages` rests on the files of `report`.
+# The crate and the call of each command that reports, of what its inputs come to, and of each program, with the word that the page has for it. `stages`
+# rests on the files of `report`.
 OTHERS = {
-    ("sl_report_commands", "report"): "report",
-    ("sl_report_commands", "totals"): "totals",
-    ("sl_report_commands", "compare"): "compare",
+    ("sl_report_commands", "show_judged"): "report",
+    ("sl_report_commands", "total_judged"): "totals",
+    ("sl_report_commands", "compare_judged"): "compare",
     ("sl_terminal_count", "run"): "seatlaw_count",
-    ("sl_terminal_commands", "run_asked"): "seatlaw",
+    ("sl_terminal_commands", "run"): "seatlaw",
 }
 NAMES = re.compile(r"\s*(?:ghost |pub )*use Rattle\.(\w+)\.specs\.([\w.]+)\.\{(.*)\};?$")
 MODULE = re.compile(r"\s*(?:ghost |pub )*use Rattle\.(\w+)\.specs\.([\w.]+)(?: as (\w+))?;?$")
@@ -124,14 +124,33 @@ def contracts(path, which=None):
                 name = None
 
 
+# The traits with clauses that contracts rest on, and where they stand.
+TRAITS = {
+    "Source": "sl_count_inputs/src/source.rt",
+    "Sink": "sl_count_inputs/src/sink.rt",
+    "Outside": "sl_terminal_outside/src/outside.rt",
+    "Writable": "sl_terminal_outside/src/outside.rt",
+    "Forms": "sl_report_commands/src/forms.rt",
+    "Speech": "sl_terminal_commands/src/speech.rt",
+}
+
+
 def reached_by(path, text):
     seen, types = set(), set()
     reach(path, text, seen, types)
-    for trait, crate in (("Source", "sl_count_inputs"), ("Sink", "sl_count_inputs"), ("Outside", "sl_terminal_outside")):
+    for trait, file in TRAITS.items():
         if re.search(rf"\b{trait}\b", text):
-            place = CRATES / crate / "src" / f"{trait.lower()}.rt"
+            place = CRATES / file
             reach(place, blocks(place, trait), seen, types)
     return seen
+
+
+def call_of(paths, name):
+    """The files that the contract of a function rests on, which stands once, and in no type."""
+    found = [(path, text) for path in paths for _, text in contracts(path, [name]) if text.startswith("pub ")]
+    if len(found) != 1:
+        sys.exit("check/trusted.py: %d functions are called %s" % (len(found), name))
+    return reached_by(*found[0])
 
 
 def definition_lines(path):
@@ -153,14 +172,9 @@ def order():
 
 
 def page():
-    calls = {}
-    for path in sorted(CRATES.glob("sl_count_calls/src/*.rt")) + sorted(CRATES.glob("sl_desk/src/calls/*.rt")):
-        for name, text in contracts(path, CALLS):
-            calls[name] = reached_by(path, text)
-    for (crate, call), program in OTHERS.items():
-        for path in sorted(CRATES.glob(f"{crate}/src/*.rt")):
-            for _, text in contracts(path, [call]):
-                calls[program] = reached_by(path, text)
+    desk = sorted(CRATES.glob("sl_count_calls/src/*.rt")) + sorted(CRATES.glob("sl_desk/src/calls/*.rt"))
+    calls = {name: call_of(desk, name) for name in CALLS}
+    calls |= {program: call_of(sorted(CRATES.glob(f"{crate}/src/*.rt")), call) for (crate, call), program in OTHERS.items()}
     columns = [*CALLS, *OTHERS.values()]
     laws = set()
     for path in sorted(CRATES.glob("*/src/**/*.rt")):
@@ -177,7 +191,7 @@ def page():
         "is for a reader to judge. This page lists the files with these definitions, call by call. It is written by `python3 check/trusted.py`,",
         "which follows the imports. Definition lines are those that are no import, no comment and not blank. The library of the toolchain, on",
         "which the files rest too, is not listed; nor are the types and constants in `src/` that the definitions name, such as `LegalFault`,",
-        "`Divisor` and the limits, and the traits `Source`, `Sink` and `Outside` with their clauses, which have to be read as well.",
+        "`Divisor` and the limits, and the traits `Source`, `Sink`, `Outside`, `Writable`, `Forms` and `Speech` with their clauses, which have to be read as well.",
         "",
         "| call | files | definition lines |",
         "|---|---|---|",

@@ -63,7 +63,10 @@ for (wrong in list(refused, caught(totals(charToRaw("kind;land\n"))), caught(com
 same(caught(check(charToRaw("rulebook 3;")))$explained()$place, c(line = 1L, column = 12L, start = 11L, end = 11L))
 unknown <- caught(compare(bund, c("@2023", "@a\"b\\\u00e4")))
 same(c(unknown$line, unknown$explained()$sentence), c("refused law a\"b\\\u00e4", "the library has no rulebook `a\"b\\\u00e4`"))
-for (wrong in list(caught(stage(law("2023"), bund, "x")), caught(law("2021")))) same(wrong$explained(), NULL)
+for (wrong in list(caught(stage(law("2023"), bund, "x")), caught(law("2021")))) {
+  same(wrong$explained(), NULL)
+  stopifnot(grepl("error\\[B", wrong$explanation("en")))
+}
 same(caught(report(law("2023"), bund, "a,b,c"))$explained(), NULL)
 
 # Code files: a run is the count of the code's rulebook.
@@ -87,9 +90,15 @@ same(caught(code(charToRaw("rulebook")))$status, 2L)
 
 # What codes mean.
 stopifnot(startsWith(explain("l04"), "L04: "), grepl("Was zu tun ist", explain("C15", "de")))
-stopifnot(grepl("B99", tryCatch(explain("B99"), error = conditionMessage)))
+stopifnot(grepl("no such code", tryCatch(explain("B99"), error = conditionMessage)))
 
-# All of a count at once.
+# Any request.
+reply <- ask(c("count", "book", "returns"), list(book = charToRaw("rulebook 3;"), returns = returns))
+same(reply[c("status", "out", "made")], list(status = 2L, out = "refused book parse 1 11\n", made = raw()))
+stopifnot(startsWith(reply$err, "error[B07]: "))
+same(ask(c("count", "@2023", "returns"))$status, 5L)
+
+# All of a rulebook and returns.
 shown <- show_all(law("2023-order"), bund)
 same(shown$table, count(law("2023-order"), bund))
 same(shown$steps, steps(law("2023-order"), bund))
@@ -142,6 +151,12 @@ if (requireNamespace("jsonlite", quietly = TRUE)) {
   same(report(law("2023-order"), bund)$entries[8, c("land", "party")], data.frame(land = "Bund", party = "CDU", row.names = 8L))
   same(totals(bund)$totals$parties, 7L)
   same(compare(bund)$books$book[6], "@2023-order")
+  own <- compare(bund, list("@2023", mine = law("2013"), book), methods = "adams")
+  same(own$books$book, c("@2023", "mine", "book", "@2023+adams", "mine+adams", "book+adams"))
+  same(own$compare$mine[2], count(law("2013"), bund)$parties$seats[1])
+  short <- report(law("2023-order"), bund, short = TRUE, before = "total 3\nparty CDU 2 0\nparty X 1 0\n")
+  same(unlist(short$press[1, c("seats", "before", "change")]), c(seats = 164L, before = 2L, change = 162L))
+  stopifnot(grepl("Sperrklausel", totals(bund, law("2023"), language = "de")$warnings$text))
   same(shown$stages$stages$stage[2:3], c("upper", "lower"))
 } else {
   stopifnot(grepl("12422", report(law("2023-order"), bund)))

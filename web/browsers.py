@@ -10,7 +10,7 @@ import subprocess
 import tempfile
 import time
 
-PROMPT = 120  # seconds for one answer
+PROMPT = 600  # seconds for one answer: a code file that does not end takes minutes
 
 
 class Lost(Exception):
@@ -35,7 +35,7 @@ class Browser:
             self.child.wait()
         shutil.rmtree(self.folder, ignore_errors=True)
 
-    def wait(self, expression, seconds=PROMPT):
+    def wait(self, expression, seconds=120):
         end = time.monotonic() + seconds
         while time.monotonic() < end:
             if self.run("Boolean(%s)" % expression):

@@ -1,12 +1,8 @@
-"""Inputs on which the page and the program are compared: those of the repository, and random ones.
-
-A case is a call of the page.
-"""
+"""Requests on which the page and the program are compared, of the inputs of the repository; and random inputs, and large ones."""
 import pathlib
 import random
 import re
 import sys
-import typing
 
 sys.path.append(str(pathlib.Path(__file__).resolve().parents[1] / "tools"))
 from repository import EXAMPLES, TOP, statutes  # noqa: E402
@@ -14,46 +10,37 @@ from repository import EXAMPLES, TOP, statutes  # noqa: E402
 sys.path += [str(TOP / "check"), str(TOP / "bench")]
 import elections  # noqa: E402
 import rows as test_rows  # noqa: E402
+from doors import Case  # noqa: E402
 
 LAWS = statutes()
 METHODS = ("webster", "jefferson", "adams", "hamilton", "hill", "dean")
 STAGE = re.compile(r"\bstage\s+(\w+)")
 ELECTIONS = EXAMPLES / "elections"
 LANGUAGES = ("de", "en")
+REPORTS = ("report book returns", "stages book returns", "totals returns book", "totals returns", "compare returns @2023 book")
 # Of each page of rows at most so many returns are counted by each of its books, and none of more bytes.
 MOST, LARGEST = 30, 200_000
 
 
-class Case(typing.NamedTuple):
-    """A call: book and returns are bytes, or a book is the name of a statute of the library, with @ before it; a book of no bytes is none.
-
-    name is that of a stage or of a statute, or of `compare` the words of the rulebooks, of which `book` stands for the bytes; names is a file of
-    full names, of which no bytes are none.
-    """
-
-    command: str
-    book: typing.Union[bytes, str] = b""
-    returns: bytes = b""
-    name: str = ""
-    names: bytes = b""
-    language: str = "en"
+def request(words, book=b"", returns=b"", names=b""):
+    """A request in which `book`, `returns` and `names` are files of these bytes; a book may also be the name of a statute with @ before it."""
+    files = {"book": book, "returns": returns, "names": names}
+    words = [book if word == "book" and isinstance(book, str) else word for word in words.split()]
+    return Case(words, {name: data for name, data in files.items() if name in words})
 
 
 def reports(book, returns, names=b""):
-    """The calls that report on returns, with a book and without one."""
-    yield Case("report", book, returns, names=names, language="de")
-    yield Case("totals", book, returns, names=names)
-    yield Case("totals", b"", returns, names=names, language="de")
-    if isinstance(book, str):
-        yield Case("compare", b"", returns, "%s @2008 @2013" % book, names)
-    else:
-        yield Case("compare", book, returns, "@2023 book", names)
-
-
-def shown(book, returns):
-    """All of a book on returns, in both languages."""
+    """The reports on returns in both languages, with a book and without one."""
     for language in LANGUAGES:
-        yield Case("show", book, returns, language=language)
+        for words in REPORTS:
+            yield request("%s --json --lang %s%s" % (words, language, " --names names" if names else ""), book, returns, names)
+
+
+def counts(book, returns, stages):
+    """All of a book on returns."""
+    for words in ("count book returns", "count book returns --lang de", "steps book returns", *("stage book returns " + name for name in stages)):
+        yield request(words, book, returns)
+    yield from reports(book, returns)
 
 
 def stages_of(book):
@@ -64,17 +51,11 @@ def examples():
     """Every book on every returns file of the examples, and each of its stages."""
     books = ["@" + law for law in LAWS] + [path.read_bytes() for path in sorted(EXAMPLES.glob("**/*.law"))]
     for book in books:
-        yield Case("check", book)
+        yield request("check book", book)
         for path in sorted(EXAMPLES.glob("**/*.csv")):
-            returns = path.read_bytes()
-            yield Case("count", book, returns)
-            yield Case("steps", book, returns)
-            for name in ("lower", "upper", "none") if isinstance(book, str) else stages_of(book):
-                yield Case("stage", book, returns, name)
-            yield from reports(book, returns)
-            yield from shown(book, returns)
+            yield from counts(book, path.read_bytes(), ("lower", "upper", "none") if isinstance(book, str) else stages_of(book))
     for law in (*LAWS, "", "1999", "2023 ", "2023\u00e4"):
-        yield Case("law", name=law)
+        yield Case(["law", law], {})
     for path in sorted(ELECTIONS.glob("20*.csv")):
         for names in ((ELECTIONS / "names.csv").read_bytes(), b"CDU,Union\nSPD\n", b"a,b,c\n", b"\xff,x\n"):
             yield from reports("@2023-order", path.read_bytes(), names)
@@ -96,21 +77,10 @@ def rows():
             books.update(dict.fromkeys(texts(row, ".law")))
             files.update(dict.fromkeys(text for text in texts(row, ".csv") if len(text) <= LARGEST))
         for book in books:
-            yield Case("check", book)
-            yield Case("report", book, language="de")
+            yield request("check book", book)
+            yield request("report book returns --json --lang de", book)
             for returns in list(files)[:MOST]:
-                yield Case("count", book, returns)
-                yield Case("steps", book, returns)
-                for name in stages_of(book)[:2]:
-                    yield Case("stage", book, returns, name)
-                yield from reports(book, returns)
-                yield from shown(book, returns)
-
-
-# How often of a hundred random inputs each command is tried.
-COMMANDS = {
-    "show": 20, "count": 18, "steps": 15, "stage": 12, "check": 6, "law": 1, "report": 12, "totals": 8, "compare": 8,
-}
+                yield from counts(book, returns, stages_of(book)[:2])
 
 
 class Random:
@@ -118,7 +88,6 @@ class Random:
 
     def __init__(self, seed):
         self.rng = random.Random(seed)
-        self.texts = {law: None for law in LAWS}
 
     def pick(self, *items):
         return self.rng.choice(items)
@@ -210,31 +179,6 @@ class Random:
                 rng.shuffle(lines)
                 data = bytearray(b"\n".join(lines))
         return bytes(data)
-
-    def case(self):
-        rng = self.rng
-        book, returns = self.book(), self.returns()
-        if rng.random() < 0.2:
-            returns = self.spoilt(returns)
-        if isinstance(book, bytes) and rng.random() < 0.2:
-            book = self.spoilt(book)
-        command = rng.choices(*zip(*COMMANDS.items()))[0]
-        if command == "law":
-            return Case(command, name=rng.choice((*LAWS, "2023x", "x" * 300, "")))
-        stages = stages_of(book) if isinstance(book, bytes) else ["pool", "upper", "lower"]
-        case = Case(command, book, returns, names=rng.choice((b"", b"", b"L0,Land Null\nB0,\"B, die Null\"\n", b"L0\n")), language=rng.choice(LANGUAGES))
-        if command == "stage":
-            return case._replace(name=rng.choice([*stages, "none"]))
-        if command == "compare":
-            words = rng.sample(["@" + law for law in LAWS], rng.randrange(1, 4))
-            return case._replace(book=book if isinstance(book, bytes) else b"", name=" ".join(words + ["book"] * isinstance(book, bytes)))
-        return case
-
-
-def random_cases(count, seed):
-    made = Random(seed)
-    for _ in range(count):
-        yield made.case()
 
 
 def largest():

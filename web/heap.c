@@ -75,6 +75,6 @@ Tried rattle_realloc(void *block, u64 kept, u64 bytes, u64 align) {
     return made;
 }
 
-// Room for what the page hands in, and for what it is given back; null where there is no memory.
+// Room for what the page hands in, or null where there is no memory; the page gives back this room, and the texts of a reply.
 __attribute__((export_name("page_room"))) void *page_room(u64 bytes) { return rattle_alloc(bytes, 16).at; }
 __attribute__((export_name("page_free"))) void page_free(void *block) { rattle_dealloc(block); }

@@ -4,7 +4,7 @@
     python3 web/inline.py MODULE TO
 
 web/page/index.html has a line `<!-- NAME -->` for each part. A policy in the file lets the browser run these scripts alone, and make no
-request at all. The module and the examples are packed by deflate. A module that lacks a call of the page is refused.
+request at all. The module and the examples are packed by deflate. A module that lacks what the page calls is refused.
 """
 import base64
 import hashlib
@@ -27,8 +27,7 @@ SCRIPTS = (
     "house.js", "images.js", "tables.js", "comparison.js", "order.js", "steps.js", "margins.js", "ties.js", "changes.js", "records.js", "files.js", "sources.js",
     "inputs.js", "saving.js", "results.js", "main.js",
 )
-CALLS = "count steps stage check law report compare totals show"
-NEEDED = {"memory", "page_room", "page_free", *("page_" + name for name in CALLS.split())}
+NEEDED = {"memory", "page_room", "page_free", "page_ask"}
 
 
 def number(code, at):

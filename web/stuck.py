@@ -14,6 +14,7 @@ WEB = pathlib.Path(__file__).resolve().parent
 COVERED = DATA / "covered" / "returns.csv"
 REAL = DATA / "elections" / "2025.csv"
 BOOK = b'rulebook 1; law "t"; house 10; eligible all; stage s = split(house, sum(counted, party), webster); stage l = split(s, counted, webster); seats l keep;'
+OF_A_COUNT = ["count", "steps", "report", "stages", "totals"]  # what the page asks of a rulebook and returns
 UNREADABLE = "Blob.prototype.arrayBuffer = function () { return Promise.reject(new DOMException('gone', 'NotFoundError')); };"
 # Returns in which a Land and a party have one name.
 ONE_NAME = """kind,land,party,a,b,c
@@ -33,7 +34,7 @@ list,HH,BERLIN,21,21,
 COUNTED = """
   const ask = window.page.calls.ask, asked = [];
   let longest = 0, last = performance.now();
-  window.page.calls.ask = (...words) => { asked.push(words[0]); return ask(...words); };
+  window.page.calls.ask = (words, files) => { asked.push(words[0]); return ask(words, files); };
   const watch = setInterval(() => { longest = Math.max(longest, performance.now() - last); last = performance.now(); }, 5);
   window.counted = () => { clearInterval(watch); window.page.calls.ask = ask; return [longest, asked]; };
 """
@@ -128,13 +129,14 @@ class Stuck(User):
         self.expect_in("the message", "folder", self.browser.text("#message"))
 
     def failed_is_not_memory(self):
-        answer = self.run("window.page.ask('nonsense').then(answer => [answer.status, answer.error])")
-        self.expect("the status of no call", answer[0], 8)
-        self.expect_in("its error", "nonsense", answer[1])
+        reply = self.run("window.page.ask(['check', 'book'], [{ name: 'book' }]).then(reply => [reply.status, reply.error])")
+        self.expect("the status of a file without bytes", reply[0], 8)
+        self.expect_in("its error", "TypeError", reply[1])
+        self.expect("the status of words that are refused", self.run("window.page.ask(['nonsense'], []).then(reply => reply.status)"), 1)
         self.expect("the status of out of memory", self.run("window.page.statusOf(new RangeError('WebAssembly.Memory(): could not allocate memory'))"), 5)
 
     def memory_is_given_back(self):
-        self.expect("whether a memory of 300 MB is given back", self.run("(async () => { const desk = new window.page.Desk(await WebAssembly.compile(await window.page.unpacked('module'))); desk.call('check', [new Uint8Array(300 << 20)]); return desk.calls === null; })()"), True)
+        self.expect("whether a memory of 300 MB is given back", self.run("(async () => { const desk = new window.page.Desk(await WebAssembly.compile(await window.page.unpacked('module'))); desk.ask(['check', 'book'], [{ name: 'book', bytes: new Uint8Array(300 << 20) }]); return desk.calls === null; })()"), True)
 
     def large_files_are_not_read(self):
         self.begin()
@@ -235,7 +237,7 @@ class Stuck(User):
         heads = self.run("[...document.querySelectorAll('details.bounds table.missing thead th')].map(h => h.textContent)")
         self.expect("the weight of Länder", heads[1], "Einwohner" if self.language == "de" else "People")
         self.expect("the Länder", [row[0] for row in self.rows("details.bounds table.missing")], ["BERLIN", "Hamburg"])
-        self.expect("what the entries are", self.run("[...window.page.shownResult().shapes].join()"), "lands,land,upper,party")
+        self.expect("what the entries are", self.run("window.page.shownResult().stages.stages.map(row => row.stage + ' ' + row.shape).join()"), "pool one,lands land,first list,floor party,upper party,lower list")
         self.reveal("#giving")
         self.after(lambda: self.browser.click('[data-key="names-remove"]'))
 
@@ -277,7 +279,7 @@ class Stuck(User):
             self.expect("whether the saved page has a " + part, part in text, False)
         parts = re.findall(r'<details[^>]*data-part="([^"]*)"', text)
         self.expect("the parts", set(parts) >= {"lists", "bounds", "all-steps", "columns"}, True)
-        empty = self.run("(async () => { const made = new DOMParser().parseFromString(await window.page.saving.pageOf(window.page.shownResult(), window.page.article), 'text/html');"
+        empty = self.run("(() => { const made = new DOMParser().parseFromString(window.page.saving.pageOf(window.page.shownResult(), window.page.article), 'text/html');"
                          " return [...made.querySelectorAll('details')].filter(d => !d.querySelector('td')).map(d => d.dataset.part); })()")
         self.expect("the parts without a table", empty, [])
         for part in (self.stage("lower") + ", ", "returns.csv", "SHA-256", "</svg>"):
@@ -327,7 +329,7 @@ class Stuck(User):
             self.expect("whether the page was written", (done.returncode != 0, pathlib.Path(folder, "page.html").exists()), (True, False))
 
     def large_returns_are_little_work(self):
-        """64 Länder and 256 parties under six statutes: two calls, and little is made and drawn at once."""
+        """64 Länder and 256 parties under six statutes: one statute is counted in full, and little is made and drawn at once."""
         path = self.file("wide.csv", cases.wide())
         self.only(*cases.LAWS)
         began = time.monotonic()
@@ -337,7 +339,7 @@ class Stuck(User):
         for words in (["compare", path], *(["report", "@" + law, path] for law in cases.LAWS)):
             subprocess.run([self.program, *map(str, words), "--json"], capture_output=True)
         print("%s: wide returns under six statutes are shown in %.1f s; the program's compare and six reports take %.1f s" % (self.browser.name, took, time.monotonic() - began))
-        self.expect("the calls", asked, ["show", "compare"])
+        self.expect("the calls", asked, [*OF_A_COUNT, "compare"])
         self.expect("whether it makes more than 30,000 elements", self.browser.count("*") > 30000, False)
         total = self.table("@%s" % self.run("document.querySelector('.result').dataset.book"), path)["total"][0][0]
         self.expect("the circles", str(self.browser.count(".result .seat")), total)
@@ -345,7 +347,7 @@ class Stuck(User):
     def largest_returns_are_little_work(self):
         """4 MiB with a tie and 4,000 warnings."""
         self.only("2023-order")
-        self.expect("the calls", self.little_at_once("the largest returns", self.file("largest.csv", cases.largest())), ["show"])
+        self.expect("the calls", self.little_at_once("the largest returns", self.file("largest.csv", cases.largest())), OF_A_COUNT)
 
     def little_at_once(self, what, path):
         """Gives returns: in Chromium the longest task of the page's own thread works for no more than 200 ms. Answers the calls that are asked for."""

@@ -1,16 +1,21 @@
-// Writes what the calls answer for the cases of a file: a line `STATUS LENGTH`, and the bytes.
+// Writes the replies to the requests of a file: a line `STATUS LENGTH LENGTH LENGTH`, and the bytes of the three texts.
 #include "cases.h"
 
+static void write_text(struct seatlaw_text text) {
+    if (text.bytes[text.length]) exit(8); // the byte behind the last one
+    fwrite(text.bytes, 1, text.length, stdout);
+}
+
 int main(int count, char **words) {
-    FILE *file = fopen(count > 1 ? words[1] : "/dev/stdin", "rb");
+    FILE *file = cases_of(count, words);
     struct one_case it;
-    while (file && next_case(file, &it)) {
-        struct seatlaw_text answer = {(char *)1, 1};
-        int status = called(it.name, it.inputs, &answer);
-        printf("%d %zu\n", status, answer.length);
-        if (answer.length) fwrite(answer.bytes, 1, answer.length, stdout);
-        seatlaw_free(&answer);
+    while (next_case(file, &it)) {
+        struct seatlaw_reply reply;
+        uint32_t status = asked(&it, &reply);
+        printf("%u %zu %zu %zu\n", status, reply.out.length, reply.err.length, reply.made.length);
+        write_text(reply.out), write_text(reply.err), write_text(reply.made);
+        seatlaw_free(&reply);
         drop_case(&it);
     }
-    return file ? fclose(file) : 9;
+    return fclose(file);
 }

@@ -1,7 +1,6 @@
-// Counts rows of random votes by `seatlaw_counts`, and each by `seatlaw_count` of its returns, and compares the numbers of both.
+// Counts rows of random votes by `seatlaw_counts`, and each by a `count` of its returns, and compares the numbers of both.
 #include <stdio.h>
 #include <stdlib.h>
-#include <string.h>
 #include "seatlaw.h"
 
 enum { LANDS = 4, PARTIES = 5, LISTS = LANDS * PARTIES, WIDTH = 1 + 2 * PARTIES + 2 * LISTS, ROOM = 4096 };
@@ -40,8 +39,10 @@ static int same_numbers(const char *table, const int32_t *seats) {
 
 int main(int count, char **words) {
     int rows = count > 1 ? atoi(words[1]) : 100, wrong = 0, tables = 0;
-    struct seatlaw_text book, answer;
-    seatlaw_law("2023", 4, &book);
+    const struct seatlaw_text law[] = {seatlaw_string("law"), seatlaw_string("2023")};
+    const struct seatlaw_text counting[] = {seatlaw_string("count"), seatlaw_string("@2023"), seatlaw_string("returns")};
+    struct seatlaw_reply book, reply;
+    seatlaw_ask(law, 2, NULL, 0, &book);
     uint32_t *votes = malloc(rows * LISTS * sizeof *votes);
     int32_t *seats = malloc(rows * WIDTH * sizeof *seats);
     uint8_t *statuses = malloc(rows);
@@ -49,15 +50,15 @@ int main(int count, char **words) {
     char kept[ROOM];
     struct seatlaw_template made = {kept, returns_of(NULL), places, columns, 2 * LISTS, LISTS};
     memcpy(kept, text, made.length);
-    enum seatlaw_status all = seatlaw_counts(book.bytes, book.length, &made, votes, rows, seats, WIDTH, statuses);
+    enum seatlaw_status all = seatlaw_counts(book.out, &made, votes, rows, seats, WIDTH, statuses);
     for (int i = 0; i < rows; i++) {
-        size_t length = returns_of(votes + i * LISTS);
-        enum seatlaw_status status = seatlaw_count(book.bytes, book.length, text, length, &answer);
+        const struct seatlaw_file file = {counting[2], {text, returns_of(votes + i * LISTS)}};
+        enum seatlaw_status status = seatlaw_ask(counting, 3, &file, 1, &reply);
         tables += status == SEATLAW_DONE;
-        wrong += statuses[i] != status || (status == SEATLAW_DONE ? !same_numbers(answer.bytes, seats + i * WIDTH) : seats[i * WIDTH] != -1);
-        seatlaw_free(&answer);
+        wrong += statuses[i] != status || (status == SEATLAW_DONE ? !same_numbers(reply.out.bytes, seats + i * WIDTH) : seats[i * WIDTH] != -1);
+        seatlaw_free(&reply);
     }
-    seatlaw_counts(book.bytes, book.length, &made, votes, 1, seats, WIDTH - 1, statuses);
+    seatlaw_counts(book.out, &made, votes, 1, seats, WIDTH - 1, statuses);
     wrong += all != SEATLAW_DONE || statuses[0] != SEATLAW_OTHER_SHAPE;
     printf("%d rows, %d with a table, %d differ from single counts", rows, tables, wrong);
     free(votes), free(seats), free(statuses), seatlaw_free(&book);

@@ -1,19 +1,19 @@
-// Finds the least stack, of powers of two, with which a thread makes all calls of a file's cases: a process for each size.
+// Finds the least stack, of powers of two, with which a thread makes all requests of a file: a process for each size.
 #include <pthread.h>
 #include <sys/wait.h>
 #include <unistd.h>
 #include "cases.h"
 
-enum { MOST_CASES = 4096, LEAST = 1 << 14, MOST = 1 << 23 };
+enum { LEAST = 1 << 14, MOST = 1 << 23 };
 
 static struct one_case cases[MOST_CASES];
 static int length;
 
-static void *call_all(void *unused) {
+static void *ask_all(void *unused) {
     for (int i = 0; i < length; i++) {
-        struct seatlaw_text answer;
-        called(cases[i].name, cases[i].inputs, &answer);
-        seatlaw_free(&answer);
+        struct seatlaw_reply reply;
+        asked(&cases[i], &reply);
+        seatlaw_free(&reply);
     }
     return unused;
 }
@@ -25,7 +25,7 @@ static int suffices(size_t stack) {
         pthread_t thread;
         pthread_attr_init(&attributes);
         pthread_attr_setstacksize(&attributes, stack);
-        if (pthread_create(&thread, &attributes, call_all, NULL)) _exit(9);
+        if (pthread_create(&thread, &attributes, ask_all, NULL)) _exit(9);
         pthread_join(thread, NULL);
         _exit(0);
     }
@@ -35,11 +35,9 @@ static int suffices(size_t stack) {
 }
 
 int main(int count, char **words) {
-    FILE *file = fopen(count > 1 ? words[1] : "/dev/stdin", "rb");
-    while (file && length < MOST_CASES && next_case(file, &cases[length])) length++;
-    if (file) fclose(file);
+    length = read_cases(count, words, cases);
     size_t stack = LEAST;
     while (stack <= MOST && !suffices(stack)) stack *= 2;
-    printf("%d calls in a thread with a stack of %zu KiB, and not with one half as large", length, stack / 1024);
+    printf("%d requests in a thread with a stack of %zu KiB, and not with one half as large", length, stack / 1024);
     return stack > 1 << 20;
 }

@@ -5,10 +5,10 @@
 #include "seatlaw.h"
 
 static struct seatlaw_text whole(const char *path) {
-    struct seatlaw_text text = {malloc(1 << 22), 0};
+    char *bytes = malloc(1 << 22);
     FILE *file = fopen(path, "rb");
-    if (!file || !text.bytes) exit(9);
-    text.length = fread(text.bytes, 1, 1 << 22, file);
+    if (!file || !bytes) exit(9);
+    struct seatlaw_text text = {bytes, fread(bytes, 1, 1 << 22, file)};
     fclose(file);
     return text;
 }
@@ -21,17 +21,18 @@ static double now(void) {
 
 int main(int count, char **words) {
     if (count != 4) return 9;
-    struct seatlaw_text book = whole(words[1]), returns = whole(words[2]), answer;
+    const struct seatlaw_text asked[] = {seatlaw_string("count"), seatlaw_string("--quiet"), seatlaw_string("book"), seatlaw_string("returns")};
+    const struct seatlaw_file files[] = {{asked[2], whole(words[1])}, {asked[3], whole(words[2])}};
+    struct seatlaw_reply reply;
     double least = 1e9, first = now();
     int times = atoi(words[3]);
     for (int i = 0; i < times; i++) {
         double begun = now();
-        seatlaw_count(book.bytes, book.length, returns.bytes, returns.length, &answer);
-        seatlaw_free(&answer);
+        seatlaw_ask(asked, 4, files, 2, &reply);
+        seatlaw_free(&reply);
         double took = now() - begun;
         if (took < least) least = took;
     }
     printf("%.4f %.4f\n", least, (now() - first) / times);
-    free(book.bytes), free(returns.bytes);
     return 0;
 }

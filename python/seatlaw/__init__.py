@@ -6,7 +6,7 @@
 >>> seatlaw.count(book, returns)
 <Table of 5 seats: Reds 2, Blues 1, Greens 1>
 """
-from ._library import STATUTES
+from ._library import STATUTES, Reply, ask
 from .calls import Shown, check, code, compare, count, explain, law, report, run, show, stage, stage_names, stages, steps, totals
 from .errors import Explanation, LegalFault, Lot, OutOfBudget, OutOfMemory, Place, Refused, SeatlawError, Span
 from .inputs import Code, Instruction, Land, ListVotes, Party, Returns, Rulebook, Winner
@@ -15,9 +15,9 @@ from .tables import BookLine, Column, ListSeats, PartySeats, Steps, Table
 
 __all__ = [
     "STATUTES", "BookLine", "Code", "Column", "Comparison", "Explanation", "Instruction", "Land", "LegalFault", "ListSeats", "ListVotes", "Lot",
-    "OutOfBudget", "OutOfMemory", "Party", "PartySeats", "Place", "Refused", "Report", "Returns", "Rulebook", "SeatlawError", "Shown", "Span", "Steps",
+    "OutOfBudget", "OutOfMemory", "Party", "PartySeats", "Place", "Refused", "Reply", "Report", "Returns", "Rulebook", "SeatlawError", "Shown", "Span", "Steps",
     "Table", "Totals", "Winner",
-    "check", "code", "compare", "count", "explain", "law", "report", "run", "show", "stage", "stage_names", "stages", "steps", "totals",
+    "ask", "check", "code", "compare", "count", "explain", "law", "report", "run", "show", "stage", "stage_names", "stages", "steps", "totals",
 ]
 
 # Names that need numpy, by the module that has them.

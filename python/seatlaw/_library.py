@@ -1,36 +1,30 @@
-"""The C library behind the package, by ctypes: a call of bytes answers a status and bytes. ctypes holds no lock of Python's meanwhile."""
+"""The C library behind the package, by ctypes: a request of words and files gets a reply. ctypes holds no lock of Python's meanwhile."""
 import ctypes
 import ctypes.util
 import os
 import pathlib
-from typing import List, Tuple, Type, Union
+from typing import Mapping, NamedTuple, Sequence, Tuple
 
-DONE, REFUSED, LEGAL_FAULT, OUT_OF_BUDGET, NO_MEMORY, NO_ROOM, NO_NAME, OTHER_SHAPE = 0, 2, 3, 4, 5, 6, 7, 8
-
-# How many inputs each call takes.
-CALLS = {
-    "count": 2, "steps": 2, "stage": 3, "check": 1, "law": 1, "run": 2, "report": 3, "totals": 3, "compare": 4, "explain_check": 2, "explain_count": 3,
-    "explain_run": 3, "explain_code": 2,
-}
+DONE, WRONG_WORDS, REFUSED, LEGAL_FAULT, OUT_OF_BUDGET, FAILED, OTHER_SHAPE = 0, 1, 2, 3, 4, 5, 8
 NAME = "libseatlaw.so"
 
 
 class Text(ctypes.Structure):
-    """A text that a call made."""
+    """Bytes, and how many."""
 
-    _fields_ = [("bytes", ctypes.c_void_p), ("length", ctypes.c_size_t)]
-
-
-class Parts(ctypes.Structure):
-    """Where each part of what is shown ends."""
-
-    _fields_ = [(name, ctypes.c_size_t) for name in ("seats", "steps", "report", "stages", "totals", "explanation")]
+    _fields_ = [("bytes", ctypes.c_char_p), ("length", ctypes.c_size_t)]
 
 
-class CodeParts(ctypes.Structure):
-    """Where the two parts of a compiled rulebook end."""
+class File(ctypes.Structure):
+    """A file that words may name, and its bytes."""
 
-    _fields_ = [(name, ctypes.c_size_t) for name in ("file", "listing")]
+    _fields_ = [("name", Text), ("bytes", Text)]
+
+
+class Answer(ctypes.Structure):
+    """What came of a request."""
+
+    _fields_ = [("status", ctypes.c_uint32), ("out", Text), ("err", Text), ("made", Text)]
 
 
 class Template(ctypes.Structure):
@@ -52,67 +46,49 @@ def _opened() -> ctypes.CDLL:
         raise ImportError("the library of seatlaw cannot be opened: %s. SEATLAW_LIBRARY may name another file" % error) from None
 
 
-def _prepared(library: ctypes.CDLL, name: str, inputs: int):
-    function = getattr(library, "seatlaw_" + name)
-    function.argtypes = [ctypes.c_char_p, ctypes.c_size_t] * inputs + [ctypes.POINTER(Text)]
-    function.restype = ctypes.c_int
-    return function
-
-
 _library = _opened()
-_functions = {name: _prepared(_library, name, inputs) for name, inputs in CALLS.items()}
-
-
-def _prepared_parts(name: str, inputs: int, parts: Type[ctypes.Structure]):
-    function = _prepared(_library, name, inputs)
-    function.argtypes = [*function.argtypes, ctypes.POINTER(parts)]
-    return function
-
-
-_show, _code = _prepared_parts("show", 4, Parts), _prepared_parts("code", 1, CodeParts)
-_free = _library.seatlaw_free
-_free.argtypes, _free.restype = [ctypes.POINTER(Text)], None
-counts = _library.seatlaw_counts
-counts.argtypes = [
-    ctypes.c_char_p, ctypes.c_size_t, ctypes.POINTER(Template), ctypes.c_void_p, ctypes.c_size_t, ctypes.c_void_p, ctypes.c_size_t, ctypes.c_void_p,
-]
-counts.restype = ctypes.c_int
-
+_ask, _free, counts, _statutes = _library.seatlaw_ask, _library.seatlaw_free, _library.seatlaw_counts, _library.seatlaw_statutes
+_ask.argtypes = [ctypes.POINTER(Text), ctypes.c_size_t, ctypes.POINTER(File), ctypes.c_size_t, ctypes.POINTER(Answer)]
+_free.argtypes, _free.restype = [ctypes.POINTER(Answer)], None
+counts.argtypes = [Text, ctypes.POINTER(Template), ctypes.c_void_p, ctypes.c_size_t, ctypes.c_void_p, ctypes.c_size_t, ctypes.c_void_p]
+_statutes.argtypes, _statutes.restype = [], ctypes.c_char_p
 
 # The names of the statutes of the library, in its order.
-_statutes = _library.seatlaw_statutes
-_statutes.argtypes, _statutes.restype = [], ctypes.c_char_p
 STATUTES: Tuple[str, ...] = tuple(_statutes().decode().split())
 
 
-def _answered(function, inputs: Tuple[bytes, ...], *more: ctypes.Structure) -> Tuple[int, bytes]:
-    answer = Text()
-    words: List[Union[bytes, int]] = []
-    for data in inputs:
-        words += (data, len(data))
-    status = function(*words, answer, *more)
+class Reply(NamedTuple):
+    """What the program does for a request: its exit status, what it writes to standard output and to standard error, and the file that `code` makes."""
+
+    status: int
+    out: str
+    err: str
+    made: bytes
+
+
+def text_of(data: bytes) -> Text:
+    """The text of bytes, which it keeps."""
+    return Text(data, len(data))
+
+
+def _bytes(text: Text) -> bytes:
+    """All bytes of a text of the library: its field gives those before the first byte 0."""
+    return ctypes.string_at(ctypes.c_void_p.from_buffer(text), text.length)
+
+
+def ask(words: Sequence[str], files: Mapping[str, bytes] = {}) -> Reply:
+    """What the program does for these words behind its name, and for files of these names.
+
+    >>> ask(["stage", "@2013", "returns.csv", "floor"], {"returns.csv": open("examples/six-laws/returns.csv", "rb").read()}).out
+    'A 9\\nB 3\\n'
+    >>> ask(["explain", "B99"]).status
+    1
+    """
+    asked = [text_of(word.encode()) for word in words]
+    handed = [File(text_of(name.encode()), text_of(data)) for name, data in files.items()]
+    answer = Answer()
+    _ask((Text * len(asked))(*asked), len(asked), (File * len(handed))(*handed), len(handed), answer)
     try:
-        return status, ctypes.string_at(answer.bytes, answer.length) if answer.length else b""
+        return Reply(answer.status, _bytes(answer.out).decode(), _bytes(answer.err).decode(), _bytes(answer.made))
     finally:
         _free(answer)
-
-
-def ask(name: str, *inputs: bytes) -> Tuple[int, bytes]:
-    """What a call answers: its status and its text."""
-    return _answered(_functions[name], inputs)
-
-
-def _asked_parts(function, inputs: Tuple[bytes, ...], ends: ctypes.Structure) -> Tuple[int, List[bytes]]:
-    status, data = _answered(function, inputs, ends)
-    places = [0, *(getattr(ends, field[0]) for field in ends._fields_)]
-    return status, [data[begin:end] for begin, end in zip(places, places[1:])]
-
-
-def show(*inputs: bytes) -> Tuple[int, List[bytes]]:
-    """What `seatlaw_show` answers: its status and its six texts."""
-    return _asked_parts(_show, inputs, Parts())
-
-
-def code(book: bytes) -> Tuple[int, List[bytes]]:
-    """What `seatlaw_code` answers: its status, the file and the listing."""
-    return _asked_parts(_code, (book,), CodeParts())

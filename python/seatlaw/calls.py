@@ -2,11 +2,10 @@
 import dataclasses
 import json
 import re
-from typing import Callable, Dict, Iterable, Optional, Tuple, Union
+from typing import Dict, Iterable, List, Mapping, Optional, Sequence, Tuple, Union
 
 from . import reports, tables
-from . import _library
-from ._library import DONE, LEGAL_FAULT, NO_MEMORY, NO_NAME, OUT_OF_BUDGET, REFUSED, STATUTES, ask
+from ._library import DONE, FAILED, LEGAL_FAULT, OUT_OF_BUDGET, REFUSED, STATUTES, WRONG_WORDS, Reply, ask
 from .errors import Explain, Explanation, LegalFault, OutOfBudget, OutOfMemory, Refused, SeatlawError, Unexplained
 from .inputs import Book, Code, Returns, rulebook
 
@@ -18,89 +17,65 @@ UNNAMED = re.compile(r'#[^\n]*|"[^"\n]*"')
 STAGE = re.compile(r"\bstage\s+(\w+)")
 
 
-def _text_of(name: str, *inputs: bytes) -> Callable[[str], str]:
-    """What explains a call on these inputs in a language."""
+@dataclasses.dataclass(frozen=True)
+class Request:
+    """A command with its options, the words of its inputs, and the files that the words name."""
 
-    def text(language: str) -> str:
-        status, data = ask("explain_" + name, language.encode(), *inputs)
-        if status == NO_MEMORY:
+    words: Sequence[str]
+    inputs: Sequence[str]
+    files: Mapping[str, bytes]
+
+    def asked(self, *options: str) -> Reply:
+        reply = ask([*self.words, *options, "--", *self.inputs], self.files)
+        if reply.status == WRONG_WORDS:
+            raise ValueError(reply.err.rstrip())
+        if reply.status == FAILED:
             raise OutOfMemory("out of memory")
-        return data.decode()
+        return reply
 
-    return text
+    def done(self, language: str = "en") -> Reply:
+        """The reply to a request that is done."""
+        reply = self.asked("--quiet", "--lang", language)
+        if reply.status != DONE:
+            raise self._unanswered(reply)
+        return reply
 
+    def explanation(self, language: str) -> str:
+        """What the program says on standard error, in a language."""
+        return self.asked("--lang", language).err
 
-def _parts_of(book: bytes, returns: bytes) -> Optional[Explanation]:
-    """Why there is no table, in parts, from the JSON of a report."""
-    status, data = ask("report", book, returns, b"")
-    if status not in (DONE, REFUSED, LEGAL_FAULT):
-        raise _failed(status)
-    return reports.heading(data.decode()).explanation
+    def parts(self) -> Optional[Explanation]:
+        """Why there is no result, in parts, from the JSON of a report. A rulebook is judged before the returns, so these may be no bytes."""
+        if "book" not in self.files:
+            return None
+        files = {"returns": b"", **self.files}
+        return reports.heading(Request(["report", "--json"], ["book", "returns"], files).asked("--quiet").out).explanation
 
-
-def _of_count(book: bytes, returns: bytes) -> Explain:
-    return Explain(_text_of("count", book, returns), lambda: _parts_of(book, returns))
-
-
-def _of_check(book: bytes) -> Explain:
-    """What explains a refused rulebook. It is judged before the returns, so these may be no bytes."""
-    return Explain(_text_of("check", book), lambda: _parts_of(book, b""))
-
-
-def _of_run(code: bytes, returns: bytes) -> Explain:
-    return Explain(_text_of("run", code, returns), lambda: None)
-
-
-UNEXPLAINED = Explain(lambda language: "", lambda: None)
-
-
-def _of_refusal(line: str, explain: Explain) -> Explain:
-    """What explains this refusal of a call: nothing, where it is that of a name or of names."""
-    return explain if line.split()[1] in ("book", "code", "returns") else UNEXPLAINED
+    def _unanswered(self, reply: Reply) -> Unexplained:
+        """What is raised for a reply that is a line in place of a result, or the JSON that has it."""
+        line, parts = reply.out.rstrip("\n"), self.parts
+        if line.startswith("{"):
+            told = reports.heading(line)
+            line, parts = told.fault or "", lambda: told.explanation
+        explain = Explain(self.explanation, parts)
+        if reply.status == LEGAL_FAULT:
+            return LegalFault(line, explain, reports.report(reply.out) if self.words[0] == "report" else None)
+        return {REFUSED: Refused, OUT_OF_BUDGET: OutOfBudget}[reply.status](line, explain)
 
 
-def _failed(status: int) -> SeatlawError:
-    if status == NO_MEMORY:
-        return OutOfMemory("out of memory")
-    return SeatlawError("a name is no UTF-8" if status == NO_NAME else "the library answered %d" % status)
+def _count(words: Sequence[str], book: Book, returns: Returns, *more: str) -> Request:
+    """A command that counts returns by a rulebook."""
+    return Request(words, ["book", "returns", *more], {"book": rulebook(book).data, "returns": returns.data})
 
 
-def _unanswered(status: int, line: str, explain: Explain) -> SeatlawError:
-    """What is raised for a status with a line in place of a result."""
-    if status == REFUSED:
-        return Refused(line, _of_refusal(line, explain))
-    return LegalFault(line, explain) if status == LEGAL_FAULT else OutOfBudget(line, explain)
+def _bytes(text: Union[str, bytes]) -> bytes:
+    return text.encode() if isinstance(text, str) else bytes(text)
 
 
-def _text(answer: Tuple[int, bytes], explain: Explain) -> str:
-    """The text of an answer that is done."""
-    status, data = answer
-    if status not in (DONE, REFUSED, LEGAL_FAULT, OUT_OF_BUDGET):
-        raise _failed(status)
-    text = data.decode()
-    if status == DONE:
-        return text
-    raise _unanswered(status, text.rstrip("\n"), explain)
-
-
-def _unanswered_json(text: str, explain: Explain, sums: Optional[str] = None) -> Unexplained:
-    """What is raised for the JSON of a refusal or of a legal fault; `sums` is the JSON of the totals."""
-    told = reports.heading(text)
-    line = told.fault or ""
-    known = lambda explain: dataclasses.replace(explain, parts=lambda: told.explanation)  # noqa: E731
-    if told.status == REFUSED:
-        return Refused(line, known(_of_refusal(line, explain)))
-    return LegalFault(line, known(explain), reports.report(text), reports.totals(sums) if sums else None)
-
-
-def _json(answer: Tuple[int, bytes], explain: Explain) -> str:
-    """The JSON of an answer that is done."""
-    status, data = answer
-    if status not in (DONE, REFUSED, LEGAL_FAULT):
-        raise _failed(status)
-    if status != DONE:
-        raise _unanswered_json(data.decode(), explain)
-    return data.decode()
+def _options(**texts: Names) -> Tuple[List[str], Dict[str, bytes]]:
+    """The options that name files, and the files; what is None is left out."""
+    files = {option: _bytes(text) for option, text in texts.items() if text is not None}
+    return [word for option in files for word in ("--" + option, option)], files
 
 
 def count(book: Book, returns: Returns) -> tables.Table:
@@ -111,8 +86,7 @@ def count(book: Book, returns: Returns) -> tables.Table:
     >>> table.seats, [row.constituency for row in table.open]
     ({'Reds': 4, 'Blues': 6}, ['Lakes'])
     """
-    inputs = rulebook(book).data, returns.data
-    return tables.Table(_text(ask("count", *inputs), _of_count(*inputs)))
+    return tables.Table(_count(["count"], book, returns).done().out)
 
 
 def steps(book: Book, returns: Returns) -> tables.Steps:
@@ -122,8 +96,7 @@ def steps(book: Book, returns: Returns) -> tables.Steps:
     >>> won.bounds[0]
     Bound(stage='upper', scope='all', last='1120000/11', next='880000/9', lot=False)
     """
-    inputs = rulebook(book).data, returns.data
-    return tables.Steps(_text(ask("steps", *inputs), _of_count(*inputs)))
+    return tables.Steps(_count(["steps"], book, returns).done().out)
 
 
 def stage(book: Book, returns: Returns, name: str) -> tables.Column:
@@ -132,8 +105,7 @@ def stage(book: Book, returns: Returns, name: str) -> tables.Column:
     >>> stage("@2013", Returns.from_file("examples/six-laws/returns.csv"), "lower").values
     {'X/A': 6, 'X/B': 3, 'Y/A': 3, 'Y/B': 1}
     """
-    inputs = rulebook(book).data, returns.data
-    return tables.Column(name, _text(ask("stage", *inputs, name.encode()), _of_count(*inputs)))
+    return tables.Column(name, _count(["stage"], book, returns, name).done().out)
 
 
 def stage_names(book: Book) -> Tuple[str, ...]:
@@ -146,12 +118,16 @@ def stage_names(book: Book) -> Tuple[str, ...]:
 
 def stages(book: Book, returns: Returns) -> Tuple[tables.Column, ...]:
     """The columns of all stages."""
-    return tuple(stage(book, returns, name) for name in stage_names(book))
+    found = json.loads(_count(["stages", "--json"], book, returns).done().out)["tables"]
+    lines: Dict[str, str] = {row["stage"]: "" for row in found["stages"]}
+    for cell in found.get("cells", []):
+        lines[cell["stage"]] += "%s %d\n" % (cell["entry"], cell["value"])
+    return tuple(tables.Column(stage, lines[stage]) for stage in lines)
 
 
 @dataclasses.dataclass(frozen=True)
 class Shown:
-    """All that comes of one count."""
+    """All that comes of a rulebook and returns."""
 
     table: tables.Table
     steps: tables.Steps
@@ -160,45 +136,30 @@ class Shown:
     totals: reports.Totals
 
 
-def _columns(text: str) -> Tuple[tables.Column, ...]:
-    """The columns of the JSON of `stages`."""
-    found = json.loads(text)["tables"]
-    lines: Dict[str, str] = {row["stage"]: "" for row in found["stages"]}
-    for cell in found.get("cells", []):
-        lines[cell["stage"]] += "%s %d\n" % (cell["entry"], cell["value"])
-    return tuple(tables.Column(stage, lines[stage]) for stage in lines)
-
-
-def show(book: Book, returns: Returns, names: Names = None) -> Shown:
-    """The seat table, the steps, the report, the stages and the totals, by one count.
+def show(book: Book, returns: Returns, names: Names = None, language: str = "en") -> Shown:
+    """The seat table, the steps, the report, the stages and the totals.
 
     >>> shown = show("@2023-order", Returns.from_file("examples/covered/returns.csv"))
     >>> shown.table.seats, shown.totals.votes[0].percent
     ({'Reds': 4, 'Blues': 6}, Decimal('44.000'))
     """
-    inputs = rulebook(book).data, returns.data
-    status, parts = _library.show(b"en", *inputs, _named(names))
-    if status not in (DONE, REFUSED, LEGAL_FAULT):
-        raise _failed(status)
-    explain = _of_count(*inputs)
-    seats, won, told, staged, sums = (part.decode() for part in parts[:5])
-    shown = reports.heading(told).status
-    if status == LEGAL_FAULT and shown == REFUSED:  # the names are refused too
-        raise LegalFault(seats.rstrip("\n"), explain)
-    if shown != DONE:
-        raise _unanswered_json(told, explain, sums)
-    return Shown(tables.Table(seats), tables.Steps(won), reports.report(told), _columns(staged), reports.totals(sums))
+    try:
+        told = report(book, returns, names, language=language)
+    except LegalFault as fault:
+        fault.totals = totals(returns, book, names, language)
+        raise
+    won = steps(book, returns)
+    return Shown(won.table, won, told, stages(book, returns), totals(returns, book, names, language))
 
 
 def check(book: Book) -> tables.BookLine:
     """What a good rulebook says of itself."""
-    data = rulebook(book).data
-    return tables.book_line(_text(ask("check", data), _of_check(data)))
+    return tables.book_line(Request(["check"], ["book"], {"book": rulebook(book).data}).done().out)
 
 
 def law(name: str) -> str:
     """The text of a statute of the library."""
-    return _text(ask("law", name.encode()), UNEXPLAINED)
+    return Request(["law"], [name], {}).done().out
 
 
 def code(book: Book) -> Code:
@@ -210,9 +171,8 @@ def code(book: Book) -> Code:
     >>> made.instructions[0]
     Instruction(number=0, name='at', operands=(0, 0, 0))
     """
-    data = rulebook(book).data
-    status, (file, text) = _library.code(data)
-    return Code(file, _text((status, text), _of_check(data)))
+    reply = Request(["code"], ["book", "out"], {"book": rulebook(book).data}).done()
+    return Code(reply.made, reply.out)
 
 
 def run(code: Code, returns: Returns) -> tables.Table:
@@ -221,56 +181,68 @@ def run(code: Code, returns: Returns) -> tables.Table:
     >>> run(code("@2023-order"), Returns.from_file("examples/covered/returns.csv")).seats
     {'Reds': 4, 'Blues': 6}
     """
-    inputs = code.data, returns.data
-    return tables.Table(_text(ask("run", *inputs), _of_run(*inputs)))
+    return tables.Table(Request(["run"], ["code", "returns"], {"code": code.data, "returns": returns.data}).done().out)
 
 
 def explain(code: str, language: str = "en") -> str:
-    """What the code of a fault means, with an example and what to do, in German for `de` and else in English.
+    """What the code of a fault means, with an example and what to do, in English or, for `de`, in German. A word that is no code is a ValueError.
 
     >>> print(explain("L04").splitlines()[0])
     L04: tie
     """
-    status, text = ask("explain_code", language.encode(), code.encode())
-    if status == REFUSED:
-        raise ValueError("no fault has the code %r" % code)
-    return _text((status, text), UNEXPLAINED)
+    return Request(["explain"], [code], {}).done(language).out
 
 
-def _named(names: Names) -> bytes:
-    return b"" if names is None else names.encode() if isinstance(names, str) else bytes(names)
-
-
-def report(book: Book, returns: Returns, names: Names = None) -> reports.Report:
+def report(
+    book: Book, returns: Returns, names: Names = None, *, short: bool = False, before: Union[tables.Table, str, bytes, None] = None, language: str = "en"
+) -> reports.Report:
     """One count in full: who takes part, seats, divisors and quotients, votes missing. A legal fault has the report up to it as its `report`.
+
+    short   the page for the press alone: `law`, `press`, `left_out` and `scopes`
+    before  of that page, an earlier seat table, as `count` writes it, for the changes
 
     >>> made = report("@2023-order", Returns.from_file("examples/covered/returns.csv"))
     >>> made.scopes[0].last, made.scopes[0].next, made.entries[2].land
     (('Blues',), ('Reds',), 'North')
+    >>> votes = Returns.from_file("examples/elections/2025.csv")
+    >>> report("@2023-order", votes, short=True, before=open("examples/elections/2021-seats.txt").read()).press[0][:5]
+    ('CDU', 'CDU', 164, 152, 12)
     """
-    inputs = rulebook(book).data, returns.data
-    return reports.report(_json(ask("report", *inputs, _named(names)), _of_count(*inputs)))
+    words, files = _options(names=names, before=before.text if isinstance(before, tables.Table) else before)
+    request = _count(["report", "--json", *(["--short"] if short else []), *words], book, returns)
+    return reports.report(dataclasses.replace(request, files={**files, **request.files}).done(language).out)
 
 
-def totals(returns: Returns, book: Optional[Book] = None, names: Names = None) -> reports.Totals:
+def totals(returns: Returns, book: Optional[Book] = None, names: Names = None, language: str = "en") -> reports.Totals:
     """The sums of returns, with a rulebook who takes part, and warnings of what is likely a mistake.
 
     >>> sums = totals(Returns.from_file("examples/covered/returns.csv"), "@2023-order")
     >>> [row.warning for row in sums.warnings]
     ['house', 'few_parties']
     """
-    data = b"" if book is None else rulebook(book).data
-    explain = _of_count(data or rulebook("@2023").data, returns.data)
-    return reports.totals(_json(ask("totals", data, returns.data, _named(names)), explain))
+    words, files = _options(names=names)
+    books = {} if book is None else {"book": rulebook(book).data}
+    return reports.totals(Request(["totals", "--json", *words], ["returns", *books], {"returns": returns.data, **books, **files}).done(language).out)
 
 
-def compare(returns: Returns, books: Iterable[Book] = LIBRARY, names: Names = None) -> reports.Comparison:
-    """The seats by several rulebooks side by side: statutes of the library, and one rulebook of another text, which is called `book`."""
-    chosen = [rulebook(book) for book in books]
-    own = [book for book in chosen if book.name is None]
-    if len(own) > 1:
-        raise ValueError("one rulebook alone may be none of the library's")
-    words = "\n".join(book.name or "book" for book in chosen).encode()
-    data = own[0].data if own else b""
-    explain = _of_count(data or rulebook("@2023").data, returns.data)
-    return reports.comparison(_json(ask("compare", words, data, returns.data, _named(names)), explain))
+def compare(
+    returns: Returns, books: Iterable[Book] = LIBRARY, names: Names = None, methods: Iterable[str] = (), language: str = "en"
+) -> reports.Comparison:
+    """The seats by several rulebooks side by side: statutes of the library, and rulebooks of other texts by their names, or as `book`.
+
+    methods  each rulebook is also counted with this method in all its splits: `webster`, `jefferson`, `adams`, `dean`, `hill` or `hamilton`
+
+    >>> import seatlaw
+    >>> mine = seatlaw.Rulebook.from_text(law("2023").replace("5 per 100", "3 per 100"), name="mine")
+    >>> made = compare(Returns.from_file("examples/six-laws/returns.csv"), ["@2023", mine], methods=["adams"])
+    >>> [row.book for row in made.books]
+    ['@2023', 'mine', '@2023+adams', 'mine+adams']
+    """
+    words, files = _options(names=names)
+    words += ["--method=" + method for method in methods]
+    files["returns"], inputs = returns.data, ["returns"]
+    for book in map(rulebook, books):
+        inputs.append(book.name or "book")
+        if not inputs[-1].startswith("@") and files.setdefault(inputs[-1], book.data) != book.data:
+            raise ValueError("two inputs are called %r: a rulebook may have a name of its own" % inputs[-1])
+    return reports.comparison(Request(["compare", "--json", *words], inputs, files).done(language).out)

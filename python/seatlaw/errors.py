@@ -4,9 +4,7 @@ import functools
 import re
 from typing import Any, Callable, Dict, NamedTuple, Optional, Tuple
 
-# The codes of the refusals that no explanation of the library speaks of (docs/faults.md).
-CODES = {"law": "B01", "stage": "B22"}
-# What is read off the explanation of a run, which has no parts.
+# What is read off an explanation that has no parts.
 CODE = re.compile(r"\[([A-Z]\d\d)\]")
 PLACE = re.compile(r"^ *--> (\w+):(\d+):(\d+)$", re.M)
 LOT = re.compile(r"^ *= \w+: (lot,[^,\n]*,[^,\n]*,[^,\n]*,[^,\n]*,)$", re.M)
@@ -48,7 +46,7 @@ def lot_of(record: str) -> Lot:
 
 @dataclasses.dataclass(frozen=True)
 class Explanation:
-    """Why there is no result, in parts. The sentences are in English.
+    """Why there is no result, in parts. The sentences are in the language of the call.
 
     code      the code of the fault, such as `B15` (docs/faults.md), or None where it has none
     input     the input of which it speaks: `book` or `returns`
@@ -105,7 +103,7 @@ class Unexplained(SeatlawError):
     """A call that was answered with one line in place of a result.
 
     line         the line, as the program writes it
-    explained    the explanation in parts (`Explanation`), or None of `run` and where there is none, as of refused names
+    explained    the explanation in parts (`Explanation`), or None of `run`, of the name of a statute or a stage, and where there is none, as of names
     code         the code of the fault, such as `B15` (docs/faults.md), or None where it has none
     place        the line and the column in the input of which the explanation speaks, or None
     """
@@ -117,7 +115,7 @@ class Unexplained(SeatlawError):
         self._told: Dict[str, str] = {}
 
     def explanation(self, language: str = "en") -> str:
-        """What the program writes to standard error, in German for `de` and else in English. Files are called `book`, `code` and `returns`."""
+        """What the program writes to standard error, in English or, for `de`, in German. Files are called `book`, `code` and `returns`."""
         if language not in self._told:
             self._told[language] = self._explain.text(language)
         return self._told[language]
@@ -159,10 +157,6 @@ class Refused(Unexplained):
         numbers = [int(word) for word in words[2:] if word.isascii() and word.isdigit()]
         self.number, self.at = numbers if self.input in ("book", "code", "returns", "names") and len(numbers) == 2 else (None, None)
         self.part = words[2] if self.input in ("book", "code") and self.number is not None else None
-
-    @property
-    def code(self) -> Optional[str]:
-        return CODES.get(self.input) or super().code
 
 
 class OutOfBudget(Unexplained):

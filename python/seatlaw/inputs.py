@@ -15,7 +15,7 @@ HEADERS = ("kind", "kind2")
 
 @dataclasses.dataclass(frozen=True)
 class Rulebook:
-    """The text of a rulebook; `name` is that of a statute of the library, with `@`, or None."""
+    """The text of a rulebook; `name` is that of a statute of the library, with `@`, or the one that `compare` has for a text of one's own, or None."""
 
     data: bytes = dataclasses.field(repr=False)
     name: Optional[str] = None
@@ -28,12 +28,14 @@ class Rulebook:
         return cls(calls.law(name).encode(), "@" + name)
 
     @classmethod
-    def from_text(cls, text: Union[str, bytes]) -> "Rulebook":
-        return cls(text.encode() if isinstance(text, str) else bytes(text))
+    def from_text(cls, text: Union[str, bytes], name: Optional[str] = None) -> "Rulebook":
+        if name is not None and name.startswith("@"):
+            raise ValueError("a name with @ is that of a statute")
+        return cls(text.encode() if isinstance(text, str) else bytes(text), name)
 
     @classmethod
-    def from_file(cls, path: Union[str, "os.PathLike[str]"]) -> "Rulebook":
-        return cls(pathlib.Path(path).read_bytes())
+    def from_file(cls, path: Union[str, "os.PathLike[str]"], name: Optional[str] = None) -> "Rulebook":
+        return cls.from_text(pathlib.Path(path).read_bytes(), name)
 
     @property
     def text(self) -> str:

@@ -8,7 +8,7 @@ from typing import Any, Callable, Dict, Iterator, List, NamedTuple, Optional, Se
 import numpy
 
 from . import calls
-from ._library import DONE, OTHER_SHAPE, Template, ask, counts
+from ._library import DONE, FAILED, OTHER_SHAPE, Template, ask, counts, text_of
 from .errors import OutOfMemory, SeatlawError
 from .frames import Frame
 from .inputs import Book, Returns, _written, rulebook
@@ -171,8 +171,8 @@ class Variations:
 
     def _compare(self) -> None:
         """The text with the numbers that the returns have is counted as the returns are."""
-        whole = ask("count", self.book.data, self.returns.data)
-        if ask("count", self.book.data, self.returns_of(self.base).data) != whole:
+        count = lambda returns: ask(["count", "--quiet", "book", "returns"], {"book": self.book.data, "returns": returns.data})  # noqa: E731
+        if count(self.returns_of(self.base)) != count(self.returns):
             raise SeatlawError("these returns cannot be varied: written again they are counted otherwise")
 
     def returns_of(self, row: Any) -> Returns:
@@ -203,11 +203,9 @@ class Variations:
         return Counts(self, matrix, statuses, seats)
 
     def _count_part(self, template: Template, matrix: numpy.ndarray, seats: numpy.ndarray, statuses: numpy.ndarray, begin: int, end: int) -> None:
-        rows, book = matrix[begin:end], self.book.data
-        status = counts(
-            book, len(book), template, rows.ctypes.data, len(rows), seats[begin:end].ctypes.data, self.width, statuses[begin:end].ctypes.data
-        )
-        if status != DONE or 5 in statuses[begin:end]:
+        rows, book = matrix[begin:end], text_of(self.book.data)
+        status = counts(book, template, rows.ctypes.data, len(rows), seats[begin:end].ctypes.data, self.width, statuses[begin:end].ctypes.data)
+        if status != DONE or FAILED in statuses[begin:end]:
             raise OutOfMemory("out of memory")
 
 

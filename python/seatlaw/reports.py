@@ -37,6 +37,32 @@ class PartyReport(NamedTuple):
     vacant: Optional[int]
 
 
+class PressRow(NamedTuple):
+    """A row of the page for the press; that of all has no party. `won` are constituencies, `direct` those whose winner sits, `before` the seats of the
+    earlier table."""
+
+    party: Optional[str]
+    party_name: str
+    seats: int
+    before: Optional[int]
+    change: Optional[int]
+    won: int
+    direct: int
+    valid: int
+    percent: Optional[Decimal]
+
+
+class LeftOut(NamedTuple):
+    """The party with the most votes that does not take part, and what it lacks."""
+
+    party: str
+    party_name: str
+    valid: int
+    percent: Optional[Decimal]
+    votes_short: Optional[int]
+    winners_short: Optional[int]
+
+
 class ListReport(NamedTuple):
     land: str
     land_name: str
@@ -180,9 +206,9 @@ class Compared(NamedTuple):
 
 # The rows of each table, by its key in the JSON.
 ROWS = {
-    "law": Law, "explanation": Text, "parties": PartyReport, "lists": ListReport, "scopes": Scope, "entries": Entry, "covering": Covering,
-    "singles": WinnerReport, "open": WinnerReport, "totals": TotalVotes, "votes": PartyTotals, "lands": LandTotals, "winners": WinnersOf,
-    "warnings": WarningText, "books": Compared,
+    "law": Law, "explanation": Text, "parties": PartyReport, "press": PressRow, "left_out": LeftOut, "lists": ListReport, "scopes": Scope,
+    "entries": Entry, "covering": Covering, "singles": WinnerReport, "open": WinnerReport, "totals": TotalVotes, "votes": PartyTotals,
+    "lands": LandTotals, "winners": WinnersOf, "warnings": WarningText, "books": Compared,
 }
 # The columns that are texts of digits in the JSON.
 DECIMALS = ("percent", "quotient", "quota", "divisor")
@@ -201,8 +227,9 @@ def _exact(key: str, value: Any) -> Any:
 
 
 def _rows(tables: Dict[str, List[Dict[str, Any]]], key: str) -> tuple:
-    kind = ROWS[key]
-    return tuple(kind(**{name: _exact(name, value) for name, value in row.items()}) for row in tables.get(key, []))
+    """The rows of a table; a column that they do not know is passed over."""
+    kind: Any = ROWS[key]
+    return tuple(kind(*(_exact(name, row[name]) for name in kind._fields)) for row in tables.get(key, []))
 
 
 class Input(NamedTuple):
@@ -257,7 +284,7 @@ class _Tables:
 
 @dataclasses.dataclass(frozen=True, repr=False)
 class Report(_Tables):
-    """One count in full; `text` is the JSON of `report`."""
+    """One count in full, or the page for the press; `text` is the JSON of `report`. A table that it does not have has no rows."""
 
     text: str
     law: Tuple[Law, ...]
@@ -269,6 +296,8 @@ class Report(_Tables):
     singles: Tuple[WinnerReport, ...]
     open: Tuple[WinnerReport, ...]
     explanation: Tuple[Text, ...]
+    press: Tuple[PressRow, ...]
+    left_out: Tuple[LeftOut, ...]
 
     @property
     def divisors(self) -> Dict[Tuple[str, str], Union[Decimal, Fraction, None]]:
@@ -280,7 +309,7 @@ class Report(_Tables):
         return {row.entry: row.missing for row in self.entries if (row.stage, row.scope) == (stage, scope)}
 
     def __repr__(self) -> str:
-        return "<Report by %s: %s>" % (self.law[0].law, ", ".join("%s %s" % (row.party, row.seats) for row in self.parties))
+        return "<Report by %s: %s>" % (self.law[0].law, ", ".join("%s %s" % (row.party, row.seats) for row in self.parties or self.press[:-1]))
 
     def _repr_html_(self) -> str:
         from . import pictures

@@ -1,5 +1,4 @@
 """The parts of python/test; each answers whether nothing is wrong."""
-import concurrent.futures
 import contextlib
 import doctest
 import importlib
@@ -15,8 +14,8 @@ import unittest
 sys.path.append(str(pathlib.Path(__file__).resolve().parents[2] / "tools"))
 from repository import EXAMPLES, TOP  # noqa: E402
 
-sys.path[:0] = [str(TOP / "check"), str(TOP / "web"), str(TOP / "capi" / "tests")]
-MODULES = ("seatlaw", "seatlaw.calls", "seatlaw.errors", "seatlaw.inputs", "seatlaw.many", "seatlaw.reports", "seatlaw.simulation", "seatlaw.tables")
+sys.path[:0] = [str(TOP / "check"), str(TOP / "capi" / "tests")]
+MODULES = ("seatlaw", "seatlaw._library", "seatlaw.calls", "seatlaw.errors", "seatlaw.inputs", "seatlaw.many", "seatlaw.reports", "seatlaw.simulation", "seatlaw.tables")
 
 
 def package(args):
@@ -81,65 +80,13 @@ def pages(args):
     return not wrong
 
 
-def by_python(case):
-    """What the call of the package answers, below its results: the status, and the bytes."""
-    import both
-    from seatlaw._library import ask, code, show
-
-    name, *inputs = both.call_of(case, LAWS)
-    if name == "code_file":
-        return compiled(*inputs)
-    if name in ("show", "code"):
-        status, parts = {"show": show, "code": code}[name](*inputs)
-        return status, b"".join(parts)
-    return ask(name, *inputs)
-
-
-def compiled(book):
-    """The status with which a rulebook is compiled, and the file alone."""
-    from seatlaw._library import code
-
-    status, (file, _) = code(book)
-    return status, file
-
-
-LAWS = {}
-
-
-def shown_otherwise(case):
-    """Whether a part of what is shown of a case's book and returns is not what the single call answers."""
-    from seatlaw._library import ask, show
-
-    book = LAWS[case.book[1:]] if isinstance(case.book, str) else case.book
-    language, inputs = case.language.encode(), (book, case.returns)
-    status, parts = show(language, *inputs, case.names)
-    single = [ask("count", *inputs), ask("steps", *inputs), ask("explain_count", language, *inputs)]
-    _, _, told, _, sums, _ = show(b"en", *inputs, case.names)[1]  # single reports are in English
-    if told != ask("report", *inputs, case.names)[1] or book and sums != ask("totals", *inputs, case.names)[1]:
-        return True
-    return [(status, parts[i]) for i in (0, 1, 5)] != single
-
-
 def random(args):
-    import both
-    import cases
-    import codes
-    from seatlaw._library import ask
+    import doors
+    import random_requests
 
-    LAWS.update({law: ask("law", law.encode())[1] for law in cases.LAWS})
-    counted = [both.told(case, LAWS) for case in both.random_cases(args.random, args.seed)]
-    all_cases = counted + list(codes.random_cases(args.random // 4, args.seed, LAWS, lambda books: [compiled(book)[1] for book in books]))
-    found = [by_python(case) for case in all_cases]
-    with tempfile.TemporaryDirectory() as folder, concurrent.futures.ThreadPoolExecutor(os.cpu_count()) as pool:
-        wanted = both.by_program_all(args.program, folder, all_cases, pool)
-    wrong = [i for i in range(len(found)) if found[i] != wanted[i]]
-    for i in wrong[:3]:
-        print("differs: %s\n  Python      %r\n  the program %r" % (repr(all_cases[i])[:600], (found[i][0], found[i][1][:300]), (wanted[i][0], wanted[i][1][:300])))
-    parted = sum(map(shown_otherwise, counted))
-    statuses = {status: sum(it[0] == status for it in found) for status in sorted({it[0] for it in found})}
-    print("random: %d inputs, by status %s, %d differ from the program, %d of what is shown at once differ from single calls" % (
-        len(found), statuses, len(wrong), parted))
-    return not wrong and not parted
+    cases = list(random_requests.random_cases(args.random, args.seed, doors.by_python))
+    wrong = doors.tried("Python", args.program)
+    return not wrong + doors.compared("Python", "random", cases, doors.by_python(cases), doors.by_program(args.program, cases))
 
 
 def wheel(args):

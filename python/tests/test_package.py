@@ -16,7 +16,6 @@ import seatlaw
 sys.path.append(str(pathlib.Path(__file__).resolve().parents[2] / "tools"))
 from repository import EXAMPLES, TOP  # noqa: E402
 from seatlaw import reports
-from seatlaw._library import ask
 
 ALL = sorted(EXAMPLES.glob("**/*.csv"))
 RETURNS = [seatlaw.Returns.from_file(path) for path in ALL if path.read_bytes().startswith(b"kind")]
@@ -131,8 +130,42 @@ class Results(unittest.TestCase):
         compared = seatlaw.compare(seatlaw.Returns.from_file(EXAMPLES / "six-laws" / "returns.csv"))
         self.assertEqual(compared.seats["B"]["@2013"], 4)
         self.assertEqual((compared.lists["X", "B"]["@2013"], compared.lists["Y", "A"]["@2023"]), (3, 1))
-        own = seatlaw.Rulebook.from_file(EXAMPLES / "first-count" / "book.law")
+        own, path = seatlaw.Rulebook.from_file(EXAMPLES / "first-count" / "book.law"), EXAMPLES / "first-run" / "book.law"
         self.assertEqual([row.book for row in seatlaw.compare(returns, ["@2013", own]).books], ["@2013", "book"])
+        compared = seatlaw.compare(returns, [own, seatlaw.Rulebook.from_file(path, "mine"), "@2023"], methods=["adams", "dean"])
+        self.assertEqual([row.book for row in compared.books][:5], ["book", "mine", "@2023", "book+adams", "book+dean"])
+        self.assertEqual(compared.seats["Reds"]["mine"], seatlaw.count(seatlaw.Rulebook.from_file(path), returns).seats["Reds"])
+
+    def test_the_page_for_the_press(self):
+        returns = seatlaw.Returns.from_file(EXAMPLES / "elections" / "2025.csv")
+        table = seatlaw.count("@2023-order", returns)
+        short = seatlaw.report("@2023-order", returns, short=True, before=table)
+        self.assertEqual([(row.party, row.seats, row.before, row.change) for row in short.press[:-1]], [(row[0], row[1], row[1], 0) for row in table.parties])
+        self.assertEqual((short.press[-1].party, short.press[-1].seats, short.heading.command, short.parties), (None, 630, "report --short", ()))
+        self.assertRaises(ValueError, seatlaw.report, "@2023-order", returns, before=table)
+
+    def test_languages(self):
+        returns = seatlaw.Returns.from_file(EXAMPLES / "covered" / "returns.csv")
+        told = [seatlaw.totals(returns, "@2023-order", language=language).warnings[1].text for language in ("en", "de")]
+        self.assertIn("threshold", told[0])
+        self.assertIn("Sperrklausel", told[1])
+        with self.assertRaises(seatlaw.Refused) as caught:
+            seatlaw.compare(seatlaw.Returns.from_text("kind;land"), language="de")
+        self.assertIn("Semikolon", caught.exception.explained.sentence)
+        self.assertIn("semicolon", caught.exception.explanation())
+        self.assertRaises(ValueError, seatlaw.explain, "L04", "fr")
+
+    def test_a_column_that_rows_do_not_know(self):
+        text = seatlaw.totals(RETURNS[0]).text.replace('"lands":[{', '"lands":[{"further":1,')
+        self.assertEqual(reports.totals(text).lands, seatlaw.totals(RETURNS[0]).lands)
+
+    def test_any_request(self):
+        reply = seatlaw.ask(["count", "book", "returns"], {"book": b"rulebook 3;", "returns": RETURNS[0].data})
+        self.assertEqual((reply.status, reply.out, reply.made), (2, "refused book parse 1 11\n", b""))
+        self.assertTrue(reply.err.startswith("error[B07]: "))
+        self.assertEqual(seatlaw.ask(["--version"]).out.split()[0], "seatlaw")
+        self.assertEqual(seatlaw.ask(["check", "book"], {"book": b""}).status, 2)
+        self.assertEqual(seatlaw.ask(["count", "@2023", "returns"]).status, 5)
 
 
 class AtOnce(unittest.TestCase):
@@ -143,10 +176,7 @@ class AtOnce(unittest.TestCase):
                     shown = seatlaw.show(book, returns)
                 except seatlaw.LegalFault as fault:
                     self.assertEqual(fault.line, outcome(seatlaw.count, book, returns))
-                    with self.assertRaises(seatlaw.LegalFault) as caught:
-                        seatlaw.report(book, returns)
-                    self.assertEqual(caught.exception.report.text, fault.report.text)
-                    self.assertEqual(caught.exception.explained, fault.explained)
+                    self.assertEqual(fault.report.heading.fault, fault.line)
                     self.assertEqual(fault.totals.text, seatlaw.totals(returns, book).text)
                 except seatlaw.Refused as error:
                     self.assertEqual(error.line, outcome(seatlaw.count, book, returns))
@@ -154,15 +184,13 @@ class AtOnce(unittest.TestCase):
                     self.assertEqual(shown.table.text, seatlaw.count(book, returns).text)
                     self.assertEqual(shown.steps.text, seatlaw.steps(book, returns).text)
                     self.assertEqual(shown.report.text, seatlaw.report(book, returns).text)
-                    self.assertEqual(shown.stages, seatlaw.stages(book, returns))
+                    self.assertEqual(shown.stages, tuple(seatlaw.stage(book, returns, name) for name in seatlaw.stage_names(book)))
                     self.assertEqual(shown.totals.text, seatlaw.totals(returns, book).text)
-        with self.assertRaises(seatlaw.Refused) as caught:
-            seatlaw.show("@2023", RETURNS[0], b"a,b,c\n")
-        self.assertEqual((caught.exception.input, caught.exception.explained), ("names", None))
         tie = [seatlaw.Rulebook.from_file(EXAMPLES / "tie" / "book.law"), seatlaw.Returns.from_file(EXAMPLES / "tie" / "returns.csv")]
-        with self.assertRaises(seatlaw.LegalFault) as caught:
-            seatlaw.show(*tie, b"a,b,c\n")
-        self.assertEqual((caught.exception.report, len(caught.exception.lots)), (None, 3))
+        for inputs in (("@2023", RETURNS[0]), tie):
+            with self.assertRaises(seatlaw.Refused) as caught:
+                seatlaw.show(*inputs, b"a,b,c\n")
+            self.assertEqual((caught.exception.input, caught.exception.explained), ("names", None))
 
 
 class Exceptions(unittest.TestCase):
@@ -187,7 +215,8 @@ class Exceptions(unittest.TestCase):
         ):
             with self.assertRaises(seatlaw.Refused) as caught:
                 call()
-            self.assertEqual((caught.exception.line, caught.exception.code, caught.exception.explanation()), (line, code, ""))
+            self.assertEqual((caught.exception.line, caught.exception.code, caught.exception.explained), (line, code, None))
+            self.assertIn("Fehler[%s]" % code, caught.exception.explanation("de"))
         with self.assertRaises(seatlaw.Refused) as caught:
             seatlaw.report("@2023", good, b"a,b,c\n")
         self.assertEqual(caught.exception.input, "names")
@@ -321,11 +350,6 @@ class Threads(unittest.TestCase):
         with concurrent.futures.ThreadPoolExecutor(32) as pool:
             for _ in range(10):
                 self.assertEqual(list(pool.map(lambda it: outcome(seatlaw.count, *it), inputs)), wanted)
-
-    def test_no_output_grows_past_its_room(self):
-        returns = seatlaw.Returns.from_file(EXAMPLES / "elections" / "2025.csv")
-        status, data = ask("report", seatlaw.law("2023").encode(), returns.data, b"")
-        self.assertEqual((status, json.loads(data)["status"]), (0, 0))
 
 
 # Counts the largest returns while the process may have little more memory than it has, and ever more, until there is enough.

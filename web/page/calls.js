@@ -5,13 +5,11 @@ const calls = (() => {
   const lanes = []; // each a worker with the calls that it has not answered yet
   let number = 0, module = null, own = null, starts = 0;
 
-  const finish = (lane, key, answer) => {
+  const finish = (lane, key, reply) => {
     const call = lane.waiting.get(key);
     lane.waiting.delete(key);
-    if (call) call.resolve(answer);
+    if (call) call.resolve(reply);
   };
-
-  const failed = (status, error) => ({ status, bytes: new Uint8Array(0), took: 0, error });
 
   // Waits for the lock that a worker holds as long as it lives: the browser gives it away when the worker has died.
   const watch = (lane, made, lock) => {
@@ -30,8 +28,8 @@ const calls = (() => {
         };
         made.onmessage = ready => {
           made.onmessage = event => {
-            const { number, ...answer } = event.data;
-            finish(lane, number, answer);
+            const { number, ...reply } = event.data;
+            finish(lane, number, reply);
           };
           resolve(made);
           watch(lane, made, ready.data.lock);
@@ -44,7 +42,7 @@ const calls = (() => {
       }
     });
 
-  const send = (lane, call) => lane.worker.postMessage({ number: call.number, name: call.name, inputs: call.inputs });
+  const send = (lane, call) => lane.worker.postMessage({ number: call.number, words: call.words, files: call.files });
 
   const give = (lane, call) => {
     lane.waiting.set(call.number, call);
@@ -83,10 +81,7 @@ const calls = (() => {
     }
   };
 
-  const answerHere = (lane, call) => {
-    const began = performance.now();
-    finish(lane, call.number, { ...own.call(call.name, call.inputs), took: performance.now() - began });
-  };
+  const answerHere = (lane, call) => finish(lane, call.number, own.ask(call.words, call.files));
 
   // The lane for a call: one that has nothing to do, a new one, or the one that has the least to do.
   const laneFor = () => {
@@ -97,11 +92,11 @@ const calls = (() => {
     return lane;
   };
 
-  // Asks for a call with these inputs, arrays of bytes: a promise of its status and its bytes.
-  const ask = (name, ...inputs) =>
+  // Asks in the words of the command line, with the files that they may name, each { name, bytes }: a promise of the reply.
+  const ask = (words, files) =>
     new Promise(resolve => {
       number += 1;
-      const call = { number, name, inputs, resolve, tries: 1 };
+      const call = { number, words, files, resolve, tries: 1 };
       const lane = own ? { worker: null, waiting: new Map() } : laneFor();
       give(lane, call);
       if (own) answerHere(lane, call);
@@ -124,5 +119,4 @@ const unpacked = async id => {
   return new Uint8Array(await new Response(stream).arrayBuffer());
 };
 
-const encoded = text => new TextEncoder().encode(text);
 const decoded = bytes => new TextDecoder("utf-8", { ignoreBOM: true }).decode(bytes);

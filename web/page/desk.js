@@ -1,39 +1,33 @@
 "use strict";
-// The desk over the module's memory: bytes in, a status and bytes out. The page and its worker share this file.
+// The desk over the module's memory: words and files in, a reply out. The page and its worker share this file.
 
-// The room for a text: at first by the bytes of the inputs, so that few texts are longer. One that is longer is counted again, for a larger room.
-const ROOM_FOR_BYTE = 32;
-const LEAST_ROOM = 1 << 20;
-const FIRST_ROOM = 1 << 27;
-const MOST_ROOM = 1 << 29;
-// How many parts the text of `show` has, one after another; any other call has one.
-const SHOWN_PARTS = 6;
 // The pages of 64 KiB that a memory has at first: growing is slow where a browser copies the memory for it, and a page that is not used costs nothing.
 const FIRST_PAGES = 6144n;
 // A memory that has grown beyond this is given back after the call, since a memory never shrinks.
 const KEPT_MEMORY = 1 << 29;
-// What a call answers where memory ran out, and where the room is too small.
+// The exit status of an error: with the page's words and files, that memory ran out.
 const NO_MEMORY = 5;
-const NO_ROOM = 6;
 // What the page answers for a call that failed otherwise, that was cancelled, and whose worker died twice.
 const FAILED = 8;
 const CANCELLED = 9;
 const LOST = 10;
+// The bytes of a text's place in memory, an address and a length; and of a reply, a status and three such places.
+const TEXT = 16;
+const REPLY = 8 + 3 * TEXT;
 
 // Whether this browser has memories of 64 bits: a module of no more than such a memory.
 const hasWideMemory = () =>
   typeof WebAssembly === "object" && WebAssembly.validate(new Uint8Array([0, 97, 115, 109, 1, 0, 0, 0, 5, 3, 1, 4, 1]));
+
+const encoded = text => new TextEncoder().encode(text);
 
 class NoMemory extends Error {}
 
 // What an error comes to: memory that cannot be had, or anything else.
 const statusOf = error => (error instanceof NoMemory || (/^(Range|Internal)Error$/.test(error.name) && /memory|allocat/i.test(error.message)) ? NO_MEMORY : FAILED);
 
-// The room with which a text is asked for at first.
-const firstRoom = inputs => {
-  const bytes = inputs.reduce((sum, input) => sum + input.length, 0);
-  return Math.min(FIRST_ROOM, Math.max(LEAST_ROOM, ROOM_FOR_BYTE * bytes));
-};
+// The reply of a call that failed.
+const failed = (status, error) => ({ status, out: new Uint8Array(0), err: new Uint8Array(0), made: new Uint8Array(0), took: 0, error });
 
 class Desk {
   constructor(code) {
@@ -51,46 +45,56 @@ class Desk {
     }
   }
 
-  // Room in the module's memory, with these bytes at its begin.
-  room(length, bytes) {
-    const at = this.calls.page_room(BigInt(Math.max(length, 1)));
+  // The memory as it is now: a call may have made it grow.
+  get memory() {
+    return this.calls.memory.buffer;
+  }
+
+  // One room for a reply, the places of texts, and the texts themselves, one after another: where it begins.
+  put(texts) {
+    const length = texts.reduce((sum, bytes) => sum + bytes.length, REPLY + TEXT * texts.length);
+    const at = Number(this.calls.page_room(BigInt(length)));
     if (!at) throw new NoMemory("no room of " + length + " bytes");
-    if (bytes) new Uint8Array(this.calls.memory.buffer).set(bytes, Number(at));
+    const places = new BigUint64Array(this.memory, at + REPLY, 2 * texts.length);
+    let from = at + REPLY + TEXT * texts.length;
+    texts.forEach((bytes, i) => {
+      places.set([BigInt(from), BigInt(bytes.length)], 2 * i);
+      new Uint8Array(this.memory).set(bytes, from);
+      from += bytes.length;
+    });
     return at;
   }
 
-  // One call with a room of that length for its text, and where each part of it ends.
-  tried(name, inputs, length) {
-    const call = this.calls["page_" + name];
-    if (!call) throw new TypeError("the module has no call " + name);
-    const taken = inputs.map(bytes => this.room(bytes.length, bytes));
-    const words = inputs.flatMap((bytes, i) => [taken[i], BigInt(bytes.length)]);
-    const out = this.room(length);
-    const count = name === "show" ? SHOWN_PARTS : 1;
-    const places = this.room(8 * count);
-    const status = call(...words, out, BigInt(length), places);
-    const memory = this.calls.memory.buffer;
-    const ends = Array.from({ length: count }, (_, i) => Number(new DataView(memory).getBigUint64(Number(places) + 8 * i, true)));
-    const bytes = new Uint8Array(memory).slice(Number(out), Number(out) + ends[count - 1]);
-    for (const at of [...taken, out, places]) this.calls.page_free(at);
-    return { status, bytes, ends };
+  // A text of a reply, copied out and given back; one of no bytes lies in no room.
+  take(at) {
+    const [from, length] = [...new BigUint64Array(this.memory, at, 2)];
+    const bytes = new Uint8Array(this.memory).slice(Number(from), Number(from + length));
+    if (length) this.calls.page_free(from);
+    return bytes;
   }
 
-  // What a call answers: its status, its text, and where its parts end. After an error, and after a call that took much memory, the module starts again.
-  call(name, inputs) {
+  // One call, with texts for the words, and for the files in turn a name and bytes.
+  asked(words, files) {
+    const at = this.put([...words, ...files]);
+    const given = at + REPLY;
+    this.calls.page_ask(...[given, words.length, given + TEXT * words.length, files.length / 2, at].map(BigInt));
+    const status = new DataView(this.memory).getUint32(at, true);
+    const [out, err, made] = [0, 1, 2].map(i => this.take(at + 8 + i * TEXT));
+    this.calls.page_free(BigInt(at));
+    return { status, out, err, made };
+  }
+
+  // The reply to words, from files that they may name, each { name, bytes }. After an error, and after a call that took much memory, the module starts again.
+  ask(words, files) {
+    const began = performance.now();
     try {
       if (!this.calls) this.begin();
-      let length = firstRoom(inputs);
-      let answer = this.tried(name, inputs, length);
-      while (answer.status === NO_ROOM && length < MOST_ROOM) {
-        length = Math.min(MOST_ROOM, 8 * length);
-        answer = this.tried(name, inputs, length);
-      }
-      if (this.calls.memory.buffer.byteLength > KEPT_MEMORY) this.calls = null;
-      return answer;
+      const reply = this.asked(words.map(encoded), files.flatMap(({ name, bytes }) => [encoded(name), bytes]));
+      if (this.memory.byteLength > KEPT_MEMORY) this.calls = null;
+      return { ...reply, took: performance.now() - began };
     } catch (error) {
       this.calls = null;
-      return { status: statusOf(error), bytes: new Uint8Array(0), error: String(error) };
+      return failed(statusOf(error), String(error));
     }
   }
 }

@@ -1,6 +1,5 @@
 // Files that are chosen or dropped: read as far as any input may be long, and known by what the desk says of them.
 const files = (() => {
-  const NONE = new Uint8Array(0);
   const MOST = { book: 65536, returns: 4194304, names: 4194304 };
 
   // The bytes of a file, one more than may be at the most, so that the desk refuses a longer one without that all of it is read; or an error.
@@ -27,13 +26,12 @@ const files = (() => {
 
   // What a file is: the desk takes it as a rulebook, as returns, or as full names; or it is what it comes nearest to.
   const kindOf = async bytes => {
-    const book = bytes.length <= MOST.book + 1 ? await calls.ask("check", bytes) : { status: 2, bytes: NONE };
+    const book = bytes.length <= MOST.book + 1 ? await answers.checked(bytes) : { status: 2, line: "" };
     if (book.status === 0) return "book";
-    const summed = await calls.ask("totals", encoded(word()), NONE, bytes, NONE);
+    const summed = await answers.withoutBook(bytes);
     if (summed.status === 0) return "returns";
-    const line = outputs.reportOf(summed).fault || "";
-    const near = nearest(decoded(bytes.slice(0, MOST.book)), decoded(book.bytes), line);
-    if (near === "book" || outputs.rowOf(line) > 1) return near;
+    const near = nearest(decoded(bytes.slice(0, MOST.book)), book.line, summed.text);
+    if (near === "book" || outputs.rowOf(summed.text) > 1) return near;
     return bytes.length && !(await names.refused(bytes)) ? "names" : near;
   };
 

@@ -48,8 +48,8 @@ const inputs = (() => {
   // Asks the desk for the texts of the library.
   const readLaws = async () => {
     for (const name of byId("module").dataset.statutes.split(" ")) {
-      const { bytes } = await calls.ask("law", encoded(name));
-      state.laws.push({ name, bytes, text: decoded(bytes) });
+      const { out } = await calls.ask(["law", name], []);
+      state.laws.push({ name, bytes: out, text: decoded(out) });
     }
   };
 
@@ -104,14 +104,13 @@ const inputs = (() => {
   const translateBook = async () => {
     const { own } = state;
     const spoken = language;
-    if (own && !own.good && !own.told.has(spoken)) own.told.set(spoken, await answers.refusedBook(own.bytes));
+    if (own && !own.good && !own.told.has(spoken)) own.told.set(spoken, await answers.refusedBook(ownBook(own)));
   };
 
   // Takes a rulebook of the user's, which the desk judges. What is typed in the text stays as it is; a file takes its place.
   const takeBook = async (name, bytes, isFile) => {
-    const answer = await calls.ask("check", bytes);
-    const good = answer.status === 0;
-    const line = decoded(answer.bytes).trimEnd() || answer.error || "";
+    const { status, line } = await answers.checked(bytes);
+    const good = status === 0;
     state.own = { name, bytes, text: decoded(bytes), line, good, told: new Map() };
     await translateBook();
     if (good) state.shown = OWN_ID;

@@ -307,8 +307,8 @@ const page = (() => {
     const law = ELECTIONS.find(([own]) => own === year);
     state.before = null;
     if (law) {
-      const { status, bytes } = await calls.ask("count", state.laws.find(own => own.name === law[1]).bytes, encoded(exampleText(year)));
-      const table = status === 0 ? outputs.tableOf(outputs.linesOf(decoded(bytes))) : null;
+      const { status, out } = await calls.ask(["count", "@" + law[1], "returns"], [{ name: "returns", bytes: encoded(exampleText(year)) }]);
+      const table = status === 0 ? outputs.tableOf(outputs.linesOf(decoded(out))) : null;
       if (table) state.before = { name: year, total: table.total, seats: new Map(table.parties.map(p => [p.party, p.seats])) };
     }
     await showResults();

@@ -4,7 +4,6 @@ const names = (() => {
   const PROPER = { AFD: "AfD", GRUENE: "Grüne", LINKE: "Linke" };
   // Returns that are good, for which a file of names is tried.
   const TRIAL = "kind,land,party,a,b,c\nland,X,,1,,\n";
-  const NONE = new Uint8Array(0);
   const full = { party: new Map(), land: new Map(), win: new Map() };
   let file = null;
 
@@ -24,8 +23,8 @@ const names = (() => {
 
   // Tries a file: nothing where the program takes it, or else the line with which it is refused.
   const refused = async bytes => {
-    const answer = await calls.ask("totals", encoded(word()), NONE, encoded(TRIAL), bytes);
-    return answer.status === 0 ? null : outputs.reportOf(answer).fault || answer.error || t("failedCall", answer.status);
+    const reply = await calls.ask(["totals", "returns", "--json", "--names", "names"], [{ name: "returns", bytes: encoded(TRIAL) }, { name: "names", bytes }]);
+    return reply.status === 0 ? null : outputs.reportOf(reply).fault || reply.error || t("failedCall", reply.status);
   };
 
   const use = given => {
@@ -48,7 +47,8 @@ const names = (() => {
     use,
     entry,
     file: () => file,
-    bytes: () => (file ? file.bytes : NONE),
+    words: () => (file ? ["--names", "names"] : []),
+    files: () => (file ? [{ name: "names", bytes: file.bytes }] : []),
     count: () => full.party.size + full.land.size + full.win.size,
     party: name => of("party", name),
     land: name => of("land", name),

@@ -47,13 +47,6 @@ const outputs = (() => {
     return { seats, bounds, table: tableOf(table) };
   };
 
-  // The column of a stage.
-  const columnOf = text =>
-    linesOf(text).map(line => {
-      const at = line.lastIndexOf(" ");
-      return { entry: line.slice(0, at), value: line.slice(at + 1) };
-    });
-
   // A legal fault: its stage, its scope and its kind; of a tie the seats, and the names of those that are tied.
   const faultOf = line => {
     const words = line.split(" ").slice(1);
@@ -72,10 +65,10 @@ const outputs = (() => {
   };
 
   // What a command that reports has written as JSON; where the call failed, a report without anything.
-  const reportOf = ({ status, bytes }) => (status < NO_MEMORY ? JSON.parse(decoded(bytes)) : { status, fault: null, explanation: null, tables: null });
+  const reportOf = ({ status, out }) => (status < NO_MEMORY ? JSON.parse(decoded(out)) : { status, fault: null, explanation: null, tables: null });
 
   // The tables of a report; nothing where it did not reach them.
   const tablesOf = ({ status, tables }) => (status === 0 ? tables : null);
 
-  return { linesOf, tableOf, stepsOf, columnOf, faultOf, rowOf, cut, reportOf, tablesOf };
+  return { linesOf, tableOf, stepsOf, faultOf, rowOf, cut, reportOf, tablesOf };
 })();

@@ -36,8 +36,7 @@ const saving = (() => {
   }, null, 1);
 
   // The page as a file of its own: what is shown of a result, with all parts filled, and without scripts and what can be pressed.
-  const pageOf = async (result, articleOf) => {
-    if (result.table) await steps.fillColumns(result);
+  const pageOf = (result, articleOf) => {
     kept.isWhole = true;
     let body;
     try {
@@ -82,7 +81,7 @@ const saving = (() => {
     const items = [
       result.table ? item("savePng", async () => save(name + ".png", "image/png", await images.pngOf(picture(), title()))) : null,
       result.table ? item("saveSvg", () => save(name + ".svg", "image/svg+xml", images.svgOf(picture(), title()))) : null,
-      item("savePage", async () => save(name + ".html", "text/html", await pageOf(result, articleOf))),
+      item("savePage", () => save(name + ".html", "text/html", pageOf(result, articleOf))),
       item("saveTable", () => save(name + ".txt", "text/plain", result.text)),
       result.table ? item("saveCsv", () => save(name + ".csv", "text/csv", csvOf(result))) : null,
       result.table ? item("saveSteps", () => save(name + "-steps.txt", "text/plain", result.stepsText)) : null,

@@ -12,7 +12,7 @@ const sources = (() => {
   };
 
   // The checksums of a result's inputs.
-  const sumsOf = async (book, returnsBytes) => ({ book: book ? await sumOf(book.bytes) : "", returns: await sumOf(returnsBytes), names: names.file() ? await sumOf(names.bytes()) : "" });
+  const sumsOf = async (book, returnsBytes) => ({ book: book ? await sumOf(book.bytes) : "", returns: await sumOf(returnsBytes), names: names.file() ? await sumOf(names.file().bytes) : "" });
 
   const line = (head, ...content) => [el("dt", {}, head), el("dd", {}, ...content)];
   const sum = text => [" · SHA-256 ", el("code", {}, text)];

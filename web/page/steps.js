@@ -54,46 +54,20 @@ const steps = (() => {
     shown(body, chooser("steps-scope", t("scope"), [...groups.keys()].map(key => [key, nameOf(key)]), key => table(nameOf(key), result, groups.get(key))));
   }, { class: "all-steps" });
 
-  // The names of a rulebook's stages, as its text has them.
-  const stagesOf = text => [...text.replace(/#.*/g, "").matchAll(/\bstage\s+(\w+)\s*=/g)].map(match => match[1]);
-
-  const columnOf = (result, stage, answer) => {
-    const text = decoded(answer.bytes);
-    if (answer.status !== 0) return el("pre", {}, text || answer.error || "");
-    const column = outputs.columnOf(text);
-    const kind = shapes.ofColumn(result, stage, column.map(c => c.entry));
-    const entry = c => (c.entry === "all" && column.length === 1 && kind === "one" ? t("allScope") : names.entry(c.entry, kind));
-    const rows = column.map(c => ({ data: { "data-entry": c.entry }, cells: [entry(c), Number(c.value)] }));
+  // The column of a stage.
+  const columnOf = (result, { stage, shape }) => {
+    const nameOf = entry => (shape === "one" ? t("allScope") : names.entry(entry, shape));
+    const rows = result.stages.cells.filter(cell => cell.stage === stage).map(({ entry, value }) => ({ data: { "data-entry": entry }, cells: [nameOf(entry), value] }));
     return tableWith(stageName(stage, result.book), [t("entry"), { head: t("value"), kind: "number" }], rows, { class: "column" });
   };
 
-  // The values of a stage, asked for when it is chosen.
+  // The column of a stage that is chosen.
   const columns = result => {
-    const stages = stagesOf(result.book.text);
-    if (!stages.length) return null;
-    const partOf = stage => {
-      const place = el("div", { class: "one-column" });
-      const made = (result.columns || (result.columns = new Map())).get(stage);
-      const show = answer => shown(place, columnOf(result, stage, answer));
-      if (made) show(made);
-      else {
-        answers.column(result.book, result.given.bytes, stage).then(answer => {
-          result.columns.set(stage, answer);
-          show(answer);
-        });
-      }
-      return place;
-    };
-    return opened("columns", t("column"), body => shown(body, chooser("column-stage", t("stage"), stages.map(stage => [stage, stageName(stage, result.book)]), partOf)), { class: "columns" });
+    const all = new Map(((result.stages && result.stages.stages) || []).map(row => [row.stage, row]));
+    const options = [...all.keys()].map(stage => [stage, stageName(stage, result.book)]);
+    const choose = body => shown(body, chooser("column-stage", t("stage"), options, stage => columnOf(result, all.get(stage))));
+    return all.size ? opened("columns", t("column"), choose, { class: "columns" }) : null;
   };
 
-  // Asks for the columns of all stages, before the page is saved.
-  const fillColumns = async result => {
-    result.columns = result.columns || new Map();
-    for (const stage of stagesOf(result.book.text)) {
-      if (!result.columns.has(stage)) result.columns.set(stage, await answers.column(result.book, result.given.bytes, stage));
-    }
-  };
-
-  return { ofSeat, all, columns, fillColumns, scopeName, stageName, stageCell, quotient };
+  return { ofSeat, all, columns, scopeName, stageName, stageCell, quotient };
 })();

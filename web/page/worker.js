@@ -13,13 +13,12 @@ const hold = lock =>
   });
 
 onmessage = async event => {
-  const { module, lock, number, name, inputs } = event.data;
+  const { module, lock, number, words, files } = event.data;
   if (module) {
     desk = new Desk(module);
     postMessage({ lock: await hold(lock) });
   } else {
-    const began = performance.now();
-    const answer = desk.call(name, inputs);
-    postMessage({ number, ...answer, took: performance.now() - began }, [answer.bytes.buffer]);
+    const reply = desk.ask(words, files);
+    postMessage({ number, ...reply }, [reply.out.buffer, reply.err.buffer, reply.made.buffer]);
   }
 };

@@ -4,7 +4,7 @@
 #![tactic(auto)]
 
 use sl_count_inputs::ToWrite;
-use sl_terminal_commands::{Terminal, run};
+use sl_terminal_commands::{AllForms, Documented, Terminal, run};
 use sl_terminal_outside::Host;
 use std::fs::File;
 use std::process::ExitCode;
@@ -15,6 +15,6 @@ fn main(rt: HostRuntime) -> anyhow::Result<ExitCode> {
     let words: Vec<String> = std::env::args(&rt)?.collect(rt.alloc())?;
     let (out, err) = (ToWrite::new(rt.stdout()), ToWrite::new(rt.stderr()));
     let mut terminal = Terminal::new(rt.alloc(), Host { rt: &rt }, out, err);
-    let status = run(&mut terminal, words.as_slice());
+    let status = run(&mut terminal, &AllForms, &Documented, words.as_slice());
     Ok(ExitCode::from(status))
 }

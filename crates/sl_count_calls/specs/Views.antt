@@ -1,7 +1,10 @@
 -- What is shown of what inputs come to, by what is asked for (docs/output.md).
 use Rattle.std.specs.Prelude.{List, None, Option, Some, ◌≡◌, ℕ}
 use Rattle.sl_count_calls.specs.Judged.{IsJudged}
+use Rattle.sl_count_calls.specs.declared.judged.Judged.TheVariants.{Counted}
 use Rattle.sl_count_calls.specs.declared.judged.Judged.{Judged}
+use Rattle.sl_law_meaning.specs.declared.count.End.TheVariants as ends
+use Rattle.sl_law_meaning.specs.declared.count.End.{End}
 use Rattle.sl_law_meaning.specs.declared.count.Records.TheVariants.{Dropped, Kept}
 use Rattle.sl_law_meaning.specs.declared.count.Records.{Records}
 use Rattle.sl_count_calls.specs.Counting.{IsTreeOutput, ShowsSeats}
@@ -45,3 +48,15 @@ IsShownOn (Stage name) tree e = IsNumberedOn name.now tree (stage_number name.no
 abbrev pub IsAnswerOf : View → Judged → Status → List ℕ → Type 0
 IsAnswerOf view judged ends output =
     (r : Records) (input : BookInput) (returns : List ℕ) → IsJudged r (stage_of view) input returns judged → IsShownOutput view input returns ends output
+
+-- ---- a table
+
+-- a count has a table, and no legal fault
+abbrev pub IsTableEnd : End → Type 0
+IsTableEnd (ends.Counted counted) = Unit {0}
+IsTableEnd (ends.Fault fault) = ⊥
+
+-- what inputs come to is one
+abbrev pub IsTable : Judged → Type 0
+IsTable (Counted c) = IsTableEnd c.outcome.end
+IsTable _ = ⊥

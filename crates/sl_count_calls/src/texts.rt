@@ -5,7 +5,7 @@ ghost use Rattle.sl_count_calls.specs.Counting.{IsTreeOutput};
 ghost use Rattle.sl_count_calls.specs.Reports.{IsReported};
 ghost use Rattle.sl_count_calls.specs.Showing.{unknown_stage};
 ghost use Rattle.sl_count_calls.specs.Suiting.{IsFor, Suits};
-ghost use Rattle.sl_count_calls.specs.Views.{IsAnswerOf, IsShownOn};
+ghost use Rattle.sl_count_calls.specs.Views.{IsAnswerOf, IsShownOn, IsTable, IsTableEnd};
 ghost use Rattle.sl_count_calls.specs.inner.Texts.{HasStage, IsMeant, SuitsReport};
 ghost use Rattle.sl_count_calls.specs.Outcomes.{FitsOutcome};
 ghost use Rattle.sl_count_inputs.specs.declared.verdict.Verdict.TheVariants as verdict;
@@ -46,7 +46,8 @@ fn reported(report: Report, alloc: Global, counting: &Counting) -> Result<Answer
     requires asked { HasStage report (book_of counting.now.book.book) }
     requires records { SuitsReport report counting.now.records }
     requires fits { FitsOutcome (book_of counting.now.book.book) counting.now.returns counting.now.outcome }
-    ensures { IfOk result (λ a. IsMeant counting.now →
+    ensures done { IfOk result (λ a. a.status ≡ Status.Done → IsTableEnd counting.now.outcome.end) }
+    ensures output { IfOk result (λ a. IsMeant counting.now →
         IsTreeOutput (IsReported report) (book_of counting.now.book.book) (verdict.Good counting.now.returns) a.status a.text.items) }
 {
     let code = counting.outcome.code.code();
@@ -66,7 +67,8 @@ fn reported(report: Report, alloc: Global, counting: &Counting) -> Result<Answer
 fn shown(view: View<'_>, alloc: Global, counting: &Counting) -> Result<Answer, NoMemory>
     requires records { Suits view counting.now.records }
     requires fits { FitsOutcome (book_of counting.now.book.book) counting.now.returns counting.now.outcome }
-    ensures { IfOk result (λ a. IsMeant counting.now →
+    ensures done { IfOk result (λ a. a.status ≡ Status.Done → IsTableEnd counting.now.outcome.end) }
+    ensures output { IfOk result (λ a. IsMeant counting.now →
         IsShownOn view.entry (book_of counting.now.book.book) counting.now.returns a.status a.text.items) }
 {
     match view {
@@ -84,7 +86,9 @@ pub fn answer_of(view: View<'_>, alloc: Global, judged: &Judged<'_>) -> Result<A
     // It has the records that are shown.
     requires { IsFor view judged.now }
     // Whatever two inputs came to it, it is the output of the command on them.
-    ensures { IfOk result (λ a. IsAnswerOf view.entry judged.entry.now a.status a.text.items) }
+    ensures output { IfOk result (λ a. IsAnswerOf view.entry judged.entry.now a.status a.text.items) }
+    // Only a table has the status `Done`.
+    ensures done { IfOk result (λ a. a.status ≡ Status.Done → IsTable judged.entry.now) }
 {
     match judged {
         Judged::BookRefused(book) => Ok(Answer::refused(book.why().line(alloc)?)),

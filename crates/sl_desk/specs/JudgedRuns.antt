@@ -11,6 +11,7 @@ use Rattle.sl_count_inputs.specs.declared.verdict.Verdict.TheVariants.{Good, Ref
 use Rattle.sl_code_instructions.specs.Codes.{CountingCode}
 use Rattle.sl_machine.specs.Answers.{answer_of}
 use Rattle.sl_machine.specs.Fits.{Fits}
+use Rattle.sl_machine.specs.declared.machine.Ending.TheVariants.{Done}
 use Rattle.sl_machine.specs.declared.machine.Ending.{Ending as Answer}
 use Rattle.sl_code_semantics.specs.Runs.{budget_of, ending}
 use Rattle.sl_code_semantics.specs.Unrecorded.{without_records}
@@ -39,3 +40,12 @@ FitsJudged _ = Unit {0}
 -- whatever two inputs came to it, this is what running the one on the other writes
 abbrev pub IsRunAnswer : JudgedRun → Status → List ℕ → Type 0
 IsRunAnswer judged ends output = (file returns : List ℕ) → IsJudged file returns judged → IsRunCode file returns ends output
+
+-- a run has a table
+abbrev pub IsTableEnd : Answer → Type 0
+IsTableEnd (Done held) = Unit {0}
+IsTableEnd _ = ⊥
+
+abbrev pub IsTable : JudgedRun → Type 0
+IsTable (Ran run) = IsTableEnd run.ending
+IsTable _ = ⊥

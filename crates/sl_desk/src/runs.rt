@@ -2,11 +2,13 @@
 
 ghost use Rattle.std.specs.Prelude.{◌≡◌, IfOk};
 ghost use Rattle.sl_desk.specs.Endings.{IsEndingOutput, out_of_budget};
+ghost use Rattle.sl_desk.specs.JudgedRuns.{IsTableEnd};
 ghost use Rattle.sl_machine.specs.Fits.{Fits};
 
 use sl_base_quotients::NoMemory;
 use sl_code_instructions::Code;
 use sl_count_calls::Answer;
+use sl_count_inputs::Status;
 use sl_machine::Ending;
 use sl_stages::Returns;
 use sl_table::{Text, fault_text, short_text, table_of};
@@ -32,7 +34,8 @@ pub(crate) fn run_text(
     ending: &Ending,
 ) -> Result<Answer, NoMemory>
     requires fits { Fits code.now returns.now ending.now }
-    ensures { IfOk result (λ a. IsEndingOutput code.now returns.now ending.now a.status a.text.items) }
+    ensures done { IfOk result (λ a. a.status ≡ Status.Done → IsTableEnd ending.now) }
+    ensures output { IfOk result (λ a. IsEndingOutput code.now returns.now ending.now a.status a.text.items) }
 {
     match ending {
         Ending::Done(memory) => {

@@ -1,7 +1,7 @@
 //! Why a command ended without what it was asked for, explained to a person: a value of what the inputs came to, and a text about its fault. Nothing
 //! is read, judged or run here.
 //!
-//! Stands on `sl_desk`, `sl_explain_books`, `sl_explain_returns` and `sl_explain_faults`; used by the rooms report, terminal and page. Proved:
+//! Stands on `sl_desk`, `sl_explain_books`, `sl_explain_returns` and `sl_explain_faults`; used by the rooms report and terminal. Proved:
 //! each explanation is of the fault that the value has, and there is none where it has none.
 //!
 //! Where an error is `NoMemory` alone, memory ran out, and nothing else is wrong.

@@ -1,4 +1,3 @@
 pub mod Summed
-pub mod DigestSteps
 pub mod SameLimits
 pub mod OneSet

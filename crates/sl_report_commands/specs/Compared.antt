@@ -1,6 +1,6 @@
 -- What `compare` shows of good rulebooks on good returns (docs/report.md).
 use Rattle.std.specs.List.{AllZip}
-use Rattle.std.specs.Prelude.{List, None, Option, Some, string_bytes, ◌≡◌}
+use Rattle.std.specs.Prelude.{List, None, Option, Some, ◌≡◌}
 use Rattle.sl_report_commands.specs.declared.comparison.Compared.{Compared}
 use Rattle.sl_report_forms.specs.Tables.{Table}
 use Rattle.sl_report_tables.specs.Compare.{AreComparison}
@@ -24,7 +24,7 @@ fault_of (Fault f) = Some f
 
 -- the book by its word, with what it means on the returns
 pub record IsComparedTo (e : Election) (c : Compared) (j : Judged) : Type 0 where
-  pub word : string_bytes j.word ≡ c.word.now
+  pub word : j.word ≡ c.word
   pub book : j.book.book ≡ c.book.book
   pub end : End
   pub meant : IsMeantEnd Dropped (book_of c.book.book) e end

@@ -1,9 +1,7 @@
 -- The digests that JSON shows: the SHA-256 of the bytes of each input that was read whole (docs/report.md).
-use Rattle.std.specs.Prelude.{Bool, true, false, List, [], ◌∷◌, ◌++◌, Option, Some, None, flat_map, if◌then◌else◌, is_some, length, map, nat_le, unwrap_or, ℕ}
+use Rattle.std.specs.Prelude.{Bool, true, false, List, [], ◌∷◌, ◌++◌, Option, Some, None, map, unwrap_or, ℕ}
 use Rattle.sha2.specs.Sha256.{sha256}
 use Rattle.sl_count_inputs.specs.Books.{BookInput, library, text}
-use Rattle.sl_count_inputs.specs.Judging.{input_of}
-use Rattle.sl_count_inputs.specs.declared.limits.TheConstants.{MAX_BOOK_BYTES, MAX_RETURNS_BYTES}
 use Rattle.sl_count_inputs.specs.declared.status.Input.TheVariants as input
 use Rattle.sl_count_inputs.specs.declared.status.Input.{Input}
 use Rattle.sl_count_inputs.specs.declared.refused_book.RefusedBook.TheVariants as refused
@@ -15,7 +13,6 @@ use Rattle.sl_count_inputs.specs.declared.verdict.Verdict.{Verdict}
 use Rattle.sl_count_calls.specs.declared.judged.Judged.TheVariants.{BookRefused, Counted, ReturnsRefused, StageUnknown}
 use Rattle.sl_count_calls.specs.declared.judged.Judged.{Judged}
 use Rattle.sl_laws.specs.Books.{law_text}
-use Rattle.sl_report_commands.specs.declared.comparison.Named.{Named}
 use Rattle.sl_report_forms.specs.declared.heading.DigestedInput.{DigestedInput}
 use Rattle.sl_report_tables.specs.declared.answer.Shape.TheVariants as shape
 use Rattle.sl_report_tables.specs.declared.answer.Shape.{Shape}
@@ -52,10 +49,6 @@ returns_digest (Some election.TooLong) bytes = []
 returns_digest (Some (election.Records why)) bytes = sha256 bytes ∷ []
 returns_digest None bytes = sha256 bytes ∷ []
 
--- returns by their bytes alone
-abbrev pub unjudged_digest : List ℕ → List (List ℕ)
-unjudged_digest returns = if nat_le (length returns) MAX_RETURNS_BYTES then sha256 returns ∷ [] else []
-
 -- ---- the inputs of a count: after a refused rulebook no returns are read
 
 abbrev pub count_digests : Judged → (book returns : List ℕ) → List (List ℕ)
@@ -73,25 +66,6 @@ refusal_of (Refused why) = Some why
 abbrev pub totals_digests : Option (Verdict CheckedBook RefusedBook) → Verdict Election RefusedElection → (book returns : List ℕ) → List (List ℕ)
 totals_digests None verdict book returns = returns_digest (refusal_of verdict) returns
 totals_digests (Some judged) verdict book returns = book_digest (refusal_of judged) book ++ returns_digest (refusal_of verdict) returns
-
--- those of totals of a count, which judged no returns after a refused rulebook
-abbrev pub summed_digests : Judged → (book returns : List ℕ) → List (List ℕ)
-summed_digests (BookRefused why) book returns = count_digests (BookRefused why) book returns ++ unjudged_digest returns
-summed_digests (StageUnknown known name) book returns = count_digests (StageUnknown known name) book returns
-summed_digests (ReturnsRefused why) book returns = count_digests (ReturnsRefused why) book returns
-summed_digests (Counted c) book returns = count_digests (Counted c) book returns
-
--- ---- the inputs of a comparison, by their bytes: the rulebooks and the returns, each if there is such a statute and no text is too long
-
-abbrev pub is_whole : BookInput → Bool
-is_whole (library name) = is_some (law_text name)
-is_whole (text bytes) = nat_le (length bytes) MAX_BOOK_BYTES
-
-abbrev pub named_digest : Named → List (List ℕ)
-named_digest n = if is_whole (input_of n.book) then sha256 (bytes_of (input_of n.book)) ∷ [] else []
-
-abbrev pub compared_digests : List Named → List ℕ → List (List ℕ)
-compared_digests books returns = flat_map named_digest books ++ unjudged_digest returns
 
 -- ---- what is shown
 

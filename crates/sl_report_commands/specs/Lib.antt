@@ -5,4 +5,5 @@ pub mod Compared
 pub mod Methods
 pub mod Summaries
 pub mod Digests
+pub mod Written
 pub mod inner

@@ -1,13 +1,10 @@
 -- The statuses of `report` and `stages` (docs/report.md).
-use Rattle.std.specs.Prelude.{Bool, List, None, false, true, ◌&&◌, ◌⊎◌, ◌≡◌, ℕ}
-use Rattle.sl_count_inputs.specs.Books.{BookInput}
+use Rattle.std.specs.Prelude.{Bool, false, true, ◌&&◌}
 use Rattle.sl_count_inputs.specs.declared.status.Status.TheVariants as status
 use Rattle.sl_count_inputs.specs.declared.status.Status.{Status}
-use Rattle.sl_count_calls.specs.Judged.{IsJudged}
 use Rattle.sl_count_calls.specs.declared.judged.Judged.TheVariants.{BookRefused, Counted, ReturnsRefused, StageUnknown}
 use Rattle.sl_count_calls.specs.declared.judged.Judged.{Judged}
 use Rattle.sl_report_tables.specs.Ends.{end_status}
-use Rattle.sl_law_meaning.specs.declared.count.Records.TheVariants.{Kept}
 
 -- the status of what inputs come to: 0 with a table, 3 with a legal fault, 2 where one of them is refused
 abbrev pub judged_status : Judged → Status
@@ -26,9 +23,3 @@ is_counted (Counted counting) = true
 -- names stop what would be shown with them: they are refused, and there is a count
 abbrev pub is_stopped : (are_refused : Bool) → Judged → Bool
 is_stopped are_refused judged = are_refused && is_counted judged
-
--- the status of a command that reports: that of what its inputs come to, and 2 where the names of a count are refused
-abbrev pub IsReportStatus : (are_refused : Bool) → BookInput → List ℕ → Status → Type 0
-IsReportStatus are_refused input returns ends =
-    (judged : Judged) × IsJudged Kept None input returns judged
-    × (((is_stopped are_refused judged ≡ false) × (ends ≡ judged_status judged)) ⊎ ((is_stopped are_refused judged ≡ true) × (ends ≡ status.Refused)))

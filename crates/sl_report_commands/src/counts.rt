@@ -1,26 +1,28 @@
-//! The commands that show one count: `report` and `stages`.
+//! The commands that show one count: `report`, `report --short` and `stages`.
 
 ghost use Rattle.std.specs.Prelude.{◌≡◌, IfErr, IfOk, is_err, length, map, option_map};
 ghost use Rattle.sl_report_forms.specs.Tables.{table_of};
 ghost use Rattle.sl_report_tables.specs.Ends.{end_status};
-ghost use Rattle.sl_report_tables.specs.Names.{are_refused};
 ghost use Rattle.sl_report_tables.specs.Reports.{Shows};
 ghost use Rattle.sl_count_calls.specs.Fitting.{FitsJudged};
 ghost use Rattle.sl_law_meaning.specs.meaning.Counts.{IsMeantEnd};
 ghost use Rattle.sl_count_calls.specs.Outcomes.{FitsEnd, FitsOutcome};
 ghost use Rattle.sl_law_meaning.specs.declared.count.Records.TheVariants.{Kept};
-ghost use Rattle.sl_count_inputs.specs.Judging.{input_of};
-ghost use Rattle.sl_report_commands.specs.Reports.{IsReport, IsShown, ShowsJudged};
+ghost use Rattle.sl_report_commands.specs.Reports.{IsShown, ShowsJudged};
 ghost use Rattle.sl_report_commands.specs.Statuses.{is_stopped, judged_status};
+ghost use Rattle.sl_report_commands.specs.Digests.{count_digests};
 ghost use Rattle.sl_report_commands.specs.Summaries.{IsRefusal};
+ghost use Rattle.sl_report_commands.specs.Written.{IsWritten, command_of, json_digests, shown_subject};
+ghost use Rattle.sl_explain_calls.specs.Codes.{subject_of};
 ghost use Rattle.sl_law_meaning.specs.book.Books.{book_of};
 
-use crate::written::{Style, Texts, Written, bytes_of, judged_text};
+use crate::forms::Forms;
+use crate::written::{Style, Texts, Written, with_reason, with_text};
 use sl_base_quotients::NoMemory;
-use sl_count_calls::{Counting, End, Judged, Outcome, Records, judge};
-use sl_count_inputs::{BookText, refused};
+use sl_count_calls::{Counting, End, Judged, Outcome};
+use sl_count_inputs::refused;
 use sl_explain_texts::Language;
-use sl_report_tables::{Answer, FullNames, Show, count_answer, names_of};
+use sl_report_tables::{Answer, FullNames, Show, count_answer};
 use sl_stages::{CheckedBook, Returns};
 use sl_table::fault_text;
 use std::alloc::Global;
@@ -35,8 +37,8 @@ fn line_of(alloc: Global, returns: &Returns, outcome: &Outcome) -> Result<Vec<u8
     }
 }
 
-/// The answer that shows what a good book comes to on good returns, by a count that kept its records.
-pub fn answer_count(
+// The answer that shows what a good book comes to on good returns, by a count that kept its records.
+fn answer_count(
     alloc: Global,
     show: Show<'_>,
     book: &CheckedBook,
@@ -71,8 +73,8 @@ pub(crate) fn again(alloc: Global, refusal: &Answer) -> Result<Answer, NoMemory>
     Ok(Answer::refused(alloc, line))
 }
 
-/// The line that refuses inputs; of a count none.
-pub(crate) fn refusal_line(alloc: Global, judged: &Judged<'_>) -> Result<Vec<u8>, NoMemory> {
+// The line that refuses inputs; of a count none.
+fn refusal_line(alloc: Global, judged: &Judged<'_>) -> Result<Vec<u8>, NoMemory> {
     match judged {
         Judged::BookRefused(book) => book.why().line(alloc),
         Judged::ReturnsRefused(returns) => returns.why().line(alloc),
@@ -110,9 +112,9 @@ fn named_answer(
     }
 }
 
-/// The answer that shows what inputs come to: the refusal of one of them, or the count with the full names of a text; or the answer that refuses
-/// these names, where they would be shown.
-pub fn answer_judged(
+// The answer that shows what inputs come to: the refusal of one of them, or the count with the full names of a text; or the answer that refuses
+// these names, where they would be shown.
+fn answer_judged(
     alloc: Global,
     show: Show<'_>,
     judged: &Judged<'_>,
@@ -133,70 +135,25 @@ pub fn answer_judged(
     }
 }
 
-// What shows what inputs come to, with the full names of a text, and its text.
-fn shown(
+/// What a command that shows a count answers, of inputs of these texts that come to this: with its text, and with why there is no table, if there is none.
+pub fn show_judged<F: Forms>(
+    forms: &F,
     alloc: Global,
     show: Show<'_>,
     judged: &Judged<'_>,
-    names: Option<&[u8]>,
+    names: &Result<FullNames, Answer>,
     texts: Texts<'_>,
     style: Style,
 ) -> Result<Written, NoMemory>
     requires fits { FitsJudged Kept judged.now }
-    ensures { IfOk result (λ w. IsShown show.entry (are_refused (option_map (λ text. text.now) names.entry)) judged.now w.answer.status (map table_of w.answer.sheets.items)) }
+    ensures shown { IfOk result (λ w. IsShown show.entry (is_err names.now) judged.now w.answer.status (map table_of w.answer.sheets.items)) }
+    ensures text { IfOk result (λ w. IsWritten (F.is_text forms.now) (command_of show.entry) style
+        (json_digests style (count_digests judged.now texts.entry.book.now texts.entry.returns.now)) w.answer w.text.items) }
+    ensures told { IfOk result (λ w. option_map subject_of w.told ≡ shown_subject (is_err names.now) judged.now) }
 {
-    let names = names_of(alloc, names)?;
-    let answer = answer_judged(alloc, show, judged, &names, style.language)?;
-    let text = judged_text(alloc, show, &answer, judged, texts, style)?;
-    match answer {
-        Ok(answer) => Ok(Written { answer, text }),
-        Err(answer) => Ok(Written { answer, text }),
+    match answer_judged(alloc, show, judged, names, style.language) {
+        Ok(Ok(answer)) => with_reason(forms, alloc, show, answer, judged, texts, style),
+        Ok(Err(refusal)) => with_text(forms, alloc, show, refusal, None, judged, texts, style),
+        Err(NoMemory) => Err(NoMemory),
     }
-}
-
-// What a command on one book answers, and its text.
-fn one_book(
-    alloc: Global,
-    show: Show<'_>,
-    book: BookText<'_>,
-    returns: &[u8],
-    names: Option<&[u8]>,
-    style: Style,
-) -> Result<Written, NoMemory>
-    ensures { IfOk result (λ w. IsReport show.entry (are_refused (option_map (λ text. text.now) names.entry)) (input_of book.entry) returns.now w.answer.status (map table_of w.answer.sheets.items)) }
-{
-    let judged = judge(Records::Kept, alloc, book, None, returns)?;
-    let texts = Texts {
-        book: bytes_of(book),
-        returns,
-    };
-    let written = shown(alloc, show, &judged, names, texts, style);
-    drop(judged);
-    written
-}
-
-/// What a book comes to on returns, in full. Inputs that `count` refuses are refused by the same line, and a legal fault has its line first.
-pub fn report(
-    alloc: Global,
-    book: BookText<'_>,
-    returns: &[u8],
-    names: Option<&[u8]>,
-    style: Style,
-) -> Result<Written, NoMemory>
-    ensures { IfOk result (λ w. IsReport Show.Report (are_refused (option_map (λ text. text.now) names.entry)) (input_of book.entry) returns.now w.answer.status (map table_of w.answer.sheets.items)) }
-{
-    one_book(alloc, Show::Report, book, returns, names, style)
-}
-
-/// The columns of all stages of a book, as `report` refuses inputs and tells of a legal fault.
-pub fn stages(
-    alloc: Global,
-    book: BookText<'_>,
-    returns: &[u8],
-    names: Option<&[u8]>,
-    style: Style,
-) -> Result<Written, NoMemory>
-    ensures { IfOk result (λ w. IsReport Show.Stages (are_refused (option_map (λ text. text.now) names.entry)) (input_of book.entry) returns.now w.answer.status (map table_of w.answer.sheets.items)) }
-{
-    one_book(alloc, Show::Stages, book, returns, names, style)
 }

@@ -1,16 +1,18 @@
 //! The texts of answers: in JSON with the digests of the inputs, and with the explanation of why there is no table.
 
-ghost use Rattle.std.specs.Prelude.{◌≡◌, ◌++◌, IfOk, OnOk, map, option_map};
+ghost use Rattle.std.specs.Prelude.{◌≡◌, ◌++◌, [], IfOk, OnOk, Some, map, option_map};
+ghost use Rattle.sl_explain_calls.specs.Codes.{book_code, election_code, judged_subject, subject, subject_of};
+ghost use Rattle.sl_count_inputs.specs.declared.status.Input.TheVariants as input;
 ghost use Rattle.sl_count_inputs.specs.Judging.{input_of};
-ghost use Rattle.sl_report_commands.specs.Digests.{book_digest, bytes_of, count_digests, digest_of, digests, is_json, refusal_of, returns_digest, text_of, unjudged_digest};
+ghost use Rattle.sl_report_commands.specs.Digests.{book_digest, bytes_of, count_digests, digest_of, digests, is_json, refusal_of, returns_digest, text_of};
 ghost use Rattle.sl_report_commands.specs.Summaries.{IsRefusal};
+ghost use Rattle.sl_report_commands.specs.Written.{IsWritten, command_of, json_digests};
 ghost use Rattle.sl_report_forms.specs.Tables.{table_of};
 
+use crate::forms::Forms;
 use sl_base_quotients::NoMemory;
 use sl_count_calls::Judged;
-use sl_count_inputs::{
-    BookText, DeskError, Input, MAX_RETURNS_BYTES, RefusedBook, RefusedElection, Verdict,
-};
+use sl_count_inputs::{BookText, DeskError, Input, RefusedBook, RefusedElection, Verdict};
 use sl_explain_calls::{Explained, explain_book, explain_election, explain_judged};
 use sl_explain_texts::{Explanation, Language};
 use sl_laws::law;
@@ -29,14 +31,6 @@ pub struct Style {
 }
 
 impl Style {
-    /// JSON in a language.
-    pub const fn json(language: Language) -> Style {
-        Style {
-            shape: Shape::Json,
-            language,
-        }
-    }
-
     /// Whether it is JSON, which alone has digests and explanations.
     pub fn is_json(self) -> bool
         ensures { result ≡ is_json self.shape }
@@ -45,11 +39,12 @@ impl Style {
     }
 }
 
-/// An answer, and its text.
+/// An answer with its text, and why there is no table, if there is none for a fault of an input.
 #[derive(Drop)]
 pub struct Written {
     pub answer: Answer,
     pub text: Vec<u8>,
+    pub told: Option<Explained>,
 }
 
 /// The bytes of a rulebook and of returns.
@@ -118,17 +113,6 @@ pub fn digested_returns(bytes: &[u8], refused: Option<&RefusedElection>) -> Opti
     }
 }
 
-/// The digest of returns by their bytes alone, or `None` where they are too long.
-pub fn digested_unjudged(bytes: &[u8]) -> Option<DigestedInput>
-    ensures { digest_of result ≡ unjudged_digest bytes.now }
-{
-    if bytes.len() > MAX_RETURNS_BYTES {
-        None
-    } else {
-        digested_returns(bytes, None)
-    }
-}
-
 /// Adds an input, if it has a digest.
 pub fn push_digested(
     inputs: &mut Vec<DigestedInput>,
@@ -142,8 +126,8 @@ pub fn push_digested(
     Ok(())
 }
 
-/// The inputs of a count that were read whole, with their digests. After a refused rulebook no returns are read.
-pub fn digested(
+// The inputs of a count that were read whole, with their digests. After a refused rulebook no returns are read.
+fn digested(
     alloc: Global,
     judged: &Judged<'_>,
     texts: Texts<'_>,
@@ -190,7 +174,8 @@ impl<'a> Reasoned<'a> {
         explained: Explained,
         bytes: &'a [u8],
     ) -> Reasoned<'a>
-        ensures { IsRefusal result.answer.status (map table_of result.answer.sheets.items) }
+        ensures refused { IsRefusal result.answer.status (map table_of result.answer.sheets.items) }
+        ensures told { option_map (λ r. subject_of r.explained) result.reason ≡ Some (subject_of explained) }
     {
         Reasoned {
             answer: Answer::refused(alloc, line),
@@ -205,7 +190,8 @@ impl<'a> Reasoned<'a> {
         bytes: &'a [u8],
         refused: &RefusedBook<'_>,
     ) -> Result<Reasoned<'a>, NoMemory>
-        ensures { IfOk result (λ r. IsRefusal r.answer.status (map table_of r.answer.sheets.items)) }
+        ensures refused { IfOk result (λ r. IsRefusal r.answer.status (map table_of r.answer.sheets.items)) }
+        ensures told { IfOk result (λ r. option_map (λ r. subject_of r.explained) r.reason ≡ Some (subject input.Book (book_code refused.now))) }
     {
         let explained = explain_book(alloc, language, bytes, refused)?;
         let line = refused.why().line(alloc)?;
@@ -219,27 +205,67 @@ impl<'a> Reasoned<'a> {
         bytes: &'a [u8],
         refused: &RefusedElection,
     ) -> Result<Reasoned<'a>, NoMemory>
-        ensures { IfOk result (λ r. IsRefusal r.answer.status (map table_of r.answer.sheets.items)) }
+        ensures refused { IfOk result (λ r. IsRefusal r.answer.status (map table_of r.answer.sheets.items)) }
+        ensures told { IfOk result (λ r. option_map (λ r. subject_of r.explained) r.reason ≡ Some (subject input.Returns (election_code refused.now))) }
     {
         let explained = explain_election(alloc, language, bytes, refused)?;
         let line = refused.why().line(alloc)?;
         Ok(Reasoned::refused(alloc, line, explained, bytes))
     }
 
+    // The text of the answer of a command, in JSON with the digests of these inputs.
+    fn text<F: Forms>(
+        &self,
+        forms: &F,
+        alloc: Global,
+        command: &'static str,
+        style: Style,
+        inputs: &[DigestedInput],
+    ) -> Result<Vec<u8>, NoMemory>
+        ensures { IfOk result (λ text. IsWritten (F.is_text forms.now) command.now style (digests inputs.now) self.now.answer text.items) }
+    {
+        let told = self.reason.as_ref().map(Reason::told);
+        text_by(forms, alloc, command, style, &self.answer, inputs, told)
+    }
+
     /// The answer of a command with its text, in JSON with the digests of these inputs.
-    pub(crate) fn written(
+    pub(crate) fn written<F: Forms>(
         self,
+        forms: &F,
         alloc: Global,
         command: &'static str,
         style: Style,
         inputs: &[DigestedInput],
     ) -> Result<Written, NoMemory>
-        ensures { IfOk result (λ w. w.answer ≡ self.entry.answer) }
+        ensures answer { IfOk result (λ w. w.answer ≡ self.entry.answer) }
+        ensures text { IfOk result (λ w. IsWritten (F.is_text forms.now) command.now style (digests inputs.now) w.answer w.text.items) }
+        ensures told { IfOk result (λ w. option_map subject_of w.told ≡ option_map (λ r. subject_of r.explained) self.entry.reason) }
+    {
+        match self.text(forms, alloc, command, style, inputs) {
+            Ok(text) => Ok(self.with_text(text)),
+            Err(NoMemory) => Err(NoMemory),
+        }
+    }
+
+    // The answer with this text.
+    fn with_text(self, text: Vec<u8>) -> Written
+        ensures answer { result.answer ≡ self.entry.answer }
+        ensures text { result.text ≡ text }
+        ensures told { option_map subject_of result.told ≡ option_map (λ r. subject_of r.explained) self.entry.reason }
     {
         let Reasoned { answer, reason } = self;
-        let told = reason.as_ref().map(Reason::told);
-        let text = text_of(alloc, command, style, &answer, inputs, told)?;
-        Ok(Written { answer, text })
+        let told = explained_in(reason);
+        Written { answer, text, told }
+    }
+}
+
+// What was explained, if anything was.
+fn explained_in(reason: Option<Reason<'_>>) -> Option<Explained>
+    ensures { option_map subject_of result ≡ option_map (λ r. subject_of r.explained) reason.entry }
+{
+    match reason {
+        Some(Reason { explained, .. }) => Some(explained),
+        None => None,
     }
 }
 
@@ -259,22 +285,25 @@ pub fn told_of<'a>(explained: &'a Explained, bytes: &'a [u8]) -> Told<'a> {
     }
 }
 
-/// The text of the answer of a command; in JSON with the digests of these inputs, and with what is told, if anything is.
-pub fn text_of(
+/// The text of the answer of a command by some forms; in JSON with the digests of these inputs, and with what is told, if anything is.
+pub fn text_by<F: Forms>(
+    forms: &F,
     alloc: Global,
     command: &'static str,
     style: Style,
     answer: &Answer,
     inputs: &[DigestedInput],
     told: Option<Told<'_>>,
-) -> Result<Vec<u8>, NoMemory> {
+) -> Result<Vec<u8>, NoMemory>
+    ensures { IfOk result (λ text. IsWritten (F.is_text forms.now) command.now style (digests inputs.now) answer.now text.items) }
+{
     let heading = Heading {
         command,
         language: style.language,
         inputs,
         told,
     };
-    answer.text(alloc, style.shape, &heading)
+    forms.text(alloc, style.shape, &heading, answer)
 }
 
 // The input, or the output, of which an error speaks.
@@ -312,42 +341,110 @@ pub fn failed_text(
     Ok(json_text(alloc, &heading, FAILED, Some(line.as_str()), &[])?.into_bytes())
 }
 
-// Why there is no table; nothing of refused names, whose line says it.
-fn reason_of<'a>(
-    alloc: Global,
-    language: Language,
-    answer: &Result<Answer, Answer>,
-    judged: &Judged<'_>,
-    texts: Texts<'a>,
-) -> Result<Option<Reason<'a>>, NoMemory> {
-    if answer.is_err() {
-        return Ok(None);
-    }
-    match explain_judged(alloc, language, judged, texts.book, texts.returns)? {
-        Some(explained) => {
-            let bytes = texts.of(explained.input);
-            Ok(Some(Reason { explained, bytes }))
-        }
-        None => Ok(None),
+// The word of the command that shows a count.
+fn command_of(show: Show<'_>) -> &'static str
+    ensures { result.now ≡ command_of show.entry }
+{
+    match show {
+        Show::Report => "report",
+        Show::Short(_) => "report --short",
+        Show::Stages => "stages",
     }
 }
 
-/// The text of an answer on what a rulebook and returns of these texts come to, or of one that refuses the names.
-pub fn judged_text(
+// The digests of the inputs of a count, which JSON has alone.
+fn digested_in(
     alloc: Global,
-    show: Show<'_>,
-    answer: &Result<Answer, Answer>,
     judged: &Judged<'_>,
     texts: Texts<'_>,
     style: Style,
-) -> Result<Vec<u8>, NoMemory> {
-    let command = show.command();
-    let (Ok(shown) | Err(shown)) = answer;
-    if !style.is_json() {
-        return text_of(alloc, command, style, shown, &[], None);
+) -> Result<Vec<DigestedInput>, NoMemory>
+    ensures { IfOk result (λ inputs. digests inputs.items ≡ json_digests style (count_digests judged.now texts.entry.book.now texts.entry.returns.now)) }
+{
+    if style.is_json() {
+        digested(alloc, judged, texts)
+    } else {
+        Ok(Vec::new(alloc))
     }
-    let inputs = digested(alloc, judged, texts)?;
-    let reason = reason_of(alloc, style.language, answer, judged, texts)?;
-    let told = reason.as_ref().map(Reason::told);
-    text_of(alloc, command, style, shown, inputs.as_slice(), told)
+}
+
+// What is told of what was explained, if anything was, with the bytes of its input.
+fn told_in<'a>(explained: &'a Option<Explained>, texts: Texts<'a>) -> Option<Told<'a>> {
+    match explained {
+        Some(explained) => Some(told_of(explained, texts.of(explained.input))),
+        None => None,
+    }
+}
+
+// The text of an answer on what a rulebook and returns of these texts come to, with what was explained of it.
+fn shown_text<F: Forms>(
+    forms: &F,
+    alloc: Global,
+    show: Show<'_>,
+    answer: &Answer,
+    explained: &Option<Explained>,
+    judged: &Judged<'_>,
+    texts: Texts<'_>,
+    style: Style,
+) -> Result<Vec<u8>, NoMemory>
+    ensures { IfOk result (λ text. IsWritten (F.is_text forms.now) (command_of show.entry) style
+        (json_digests style (count_digests judged.now texts.entry.book.now texts.entry.returns.now)) answer.now text.items) }
+{
+    let inputs = digested_in(alloc, judged, texts, style)?;
+    let told = told_in(explained, texts);
+    let command = command_of(show);
+    let text = text_by(
+        forms,
+        alloc,
+        command,
+        style,
+        answer,
+        inputs.as_slice(),
+        told,
+    );
+    drop(inputs);
+    text
+}
+
+/// An answer on what a rulebook and returns of these texts come to, with its text, and with what was explained of it.
+pub(crate) fn with_text<F: Forms>(
+    forms: &F,
+    alloc: Global,
+    show: Show<'_>,
+    answer: Answer,
+    told: Option<Explained>,
+    judged: &Judged<'_>,
+    texts: Texts<'_>,
+    style: Style,
+) -> Result<Written, NoMemory>
+    ensures answer { IfOk result (λ w. w.answer ≡ answer) }
+    ensures text { IfOk result (λ w. IsWritten (F.is_text forms.now) (command_of show.entry) style
+        (json_digests style (count_digests judged.now texts.entry.book.now texts.entry.returns.now)) w.answer w.text.items) }
+    ensures told { IfOk result (λ w. w.told ≡ told) }
+{
+    match shown_text(forms, alloc, show, &answer, &told, judged, texts, style) {
+        Ok(text) => Ok(Written { answer, text, told }),
+        Err(NoMemory) => Err(NoMemory),
+    }
+}
+
+/// An answer on what a rulebook and returns of these texts come to, with its text, and with why there is no table, if there is none.
+pub(crate) fn with_reason<F: Forms>(
+    forms: &F,
+    alloc: Global,
+    show: Show<'_>,
+    answer: Answer,
+    judged: &Judged<'_>,
+    texts: Texts<'_>,
+    style: Style,
+) -> Result<Written, NoMemory>
+    ensures answer { IfOk result (λ w. w.answer ≡ answer) }
+    ensures text { IfOk result (λ w. IsWritten (F.is_text forms.now) (command_of show.entry) style
+        (json_digests style (count_digests judged.now texts.entry.book.now texts.entry.returns.now)) w.answer w.text.items) }
+    ensures told { IfOk result (λ w. option_map subject_of w.told ≡ judged_subject judged.now) }
+{
+    match explain_judged(alloc, style.language, judged, texts.book, texts.returns) {
+        Ok(told) => with_text(forms, alloc, show, answer, told, judged, texts, style),
+        Err(NoMemory) => Err(NoMemory),
+    }
 }

@@ -1,8 +1,8 @@
-mod Deliveries
-mod Exits
+mod Answering
+mod Columns
 mod Known
 mod LibraryWords
-mod Shown
-mod Summaries
-mod Tellings
+mod Reported
+mod Warned
 mod Words
+mod Zips

@@ -5,8 +5,10 @@ use Rattle.std.proofs.lemmas.List.{length-map}
 use Rattle.std.proofs.lemmas.List.Elements.{All-map}
 use Rattle.sl_count_inputs.specs.Judging.{tree_verdict}
 use Rattle.sl_laws.specs.Books.{books as statutes}
-use Rattle.sl_terminal_commands.specs.Sums.{IsVerdictOn, compared_words, library_words}
+use Rattle.sl_terminal_commands.specs.Comparisons.{compared_words, library_words}
+use Rattle.sl_terminal_commands.specs.Sums.{IsVerdictOn}
 use Rattle.sl_terminal_commands.specs.declared.sums.NamedBook.{NamedBook}
+use Rattle.sl_terminal_commands.specs.inner.Comparing.{IsReadBook}
 use Rattle.sl_terminal_commands.specs.inner.Statutes.{IsJudgedStatute}
 
 abbrev pub IsStatuteWord : List ℕ → Type 0
@@ -17,13 +19,13 @@ each_names = All-map IsStatuteWord (λ statute. 64 ∷ statute.0) statutes (λ k
 
 -- what is judged by the words of the library is what these words name
 pub statutes_on : (bytes : List ℕ → Option (List ℕ)) (books : List NamedBook) → map (λ (b : NamedBook). b.word.now) books ≡ library_words → All IsJudgedStatute books
-    → All (λ (b : NamedBook). IsVerdictOn bytes b.word.now (tree_verdict b.read.verdict)) books
+    → All (IsReadBook bytes) books
 statutes_on bytes books words judged = λ k d lt.
     let word = λ (b : NamedBook). b.word.now in
     let b = get_or books k d in
     let are : All IsStatuteWord (map word books) = subst (All IsStatuteWord) (sym words) each_names in
     let is : IsStatuteWord (word b) = subst IsStatuteWord (get_or-map word books k d) (are k (word d) (subst (λ n. k < n) (sym (length-map books word)) lt)) in
-    subst (λ w. IsVerdictOn bytes w (tree_verdict b.read.verdict)) (sym is.1) (judged k d lt is.0 is.1)
+    ((judged k d lt).0, subst (λ w. IsVerdictOn bytes w (tree_verdict b.read.verdict)) (sym is.1) ((judged k d lt).1 is.0 is.1))
 
 -- which words are compared
 pub none_given : (books : List (Bor (List ℕ))) → nat_eq (length books) 0 ≡ true → library_words ≡ compared_words (map (λ (w : Bor (List ℕ)). w.now) books)

@@ -1,5 +1,5 @@
--- The digests that JSON shows of the inputs of `totals` and `compare`, as they were read (docs/report.md).
-use Rattle.std.specs.Prelude.{List, Option, Some, None, if◌then◌else◌, flat_map, ◌∷◌, ◌++◌, ◌==◌, ℕ, []}
+-- The digests that JSON shows of the inputs of `compare`, as they were read (docs/report.md).
+use Rattle.std.specs.Prelude.{List, if◌then◌else◌, flat_map, ◌∷◌, ◌++◌, ◌==◌, ℕ, []}
 use Rattle.sl_count_inputs.specs.Books.{library}
 use Rattle.sl_report_commands.specs.Digests.{book_digest, bytes_of, is_json, refusal_of, returns_digest}
 use Rattle.sl_report_tables.specs.declared.answer.Shape.{Shape}
@@ -16,11 +16,6 @@ named_digest b = book_digest (refusal_of b.read.verdict) (word_bytes b.word.now 
 
 abbrev pub read_digest : NamedReturns → List (List ℕ)
 read_digest r = returns_digest (refusal_of r.read.verdict) r.read.text.items
-
--- of a rulebook, if one is given, and of returns; in JSON alone
-abbrev pub sums_digests : Shape → Option NamedBook → NamedReturns → List (List ℕ)
-sums_digests shape None returns = if is_json shape then read_digest returns else []
-sums_digests shape (Some book) returns = if is_json shape then named_digest book ++ read_digest returns else []
 
 -- of rulebooks and of returns; in JSON alone
 abbrev pub called_digests : Shape → List NamedBook → NamedReturns → List (List ℕ)

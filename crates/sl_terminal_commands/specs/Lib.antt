@@ -1,9 +1,11 @@
--- What each request writes, what is told of it, what a step leaves as it was, and how the program ends.
+-- What each request answers, what is said of it, and how it is written.
 pub mod Beside
+pub mod Comparisons
 pub mod Digested
-pub mod Ends
+pub mod Failures
 pub mod Files
-pub mod Frames
+pub mod Given
+pub mod Replies
 pub mod Requests
 pub mod Said
 pub mod Sums

@@ -1,6 +1,7 @@
--- What each request writes to standard output, where the bytes of its files are known (docs/output.md, docs/report.md).
+-- What each request answers, where the bytes of its files are known (docs/output.md, docs/report.md).
 use Rattle.std.specs.Option.{option_map}
-use Rattle.std.specs.Prelude.{Bool, IfSome, List, None, Option, map, ◌≡◌, ◌⊎◌, ℕ}
+use Rattle.std.specs.Borrow.{Bor}
+use Rattle.std.specs.Prelude.{Bool, IfSome, List, None, Option, Some, [], codes, false, length, map, nat_lt, ◌||◌, ◌≡◌, ℕ}
 use Rattle.sl_count_calls.specs.Counting.{IsOutput, ShowsSeats}
 use Rattle.sl_count_calls.specs.Showing.{IsStageOutput}
 use Rattle.sl_count_calls.specs.Steps.{ShowsSteps}
@@ -12,17 +13,38 @@ use Rattle.sl_count_inputs.specs.Library.{IsLawOutput}
 use Rattle.sl_count_inputs.specs.Reading.{ForKnown}
 use Rattle.sl_count_inputs.specs.declared.status.Status.TheVariants as status
 use Rattle.sl_count_inputs.specs.declared.status.Status.{Status}
+use Rattle.sl_explain_texts.specs.declared.code.FaultCode.{FaultCode}
+use Rattle.sl_explain_texts.specs.declared.language.Language.{Language}
 use Rattle.sl_terminal_outside.specs.Inputs.{named_input}
-use Rattle.sl_report_commands.specs.Statuses.{IsReportStatus}
-use Rattle.sl_terminal_commands.specs.Beside.{AreBeside}
-use Rattle.sl_terminal_commands.specs.Ends.{Exits}
-use Rattle.sl_terminal_commands.specs.Sums.{IsComparing, IsSumming, compared_words, given_word}
+use Rattle.sl_report_commands.specs.Reports.{IsReport}
+use Rattle.sl_report_commands.specs.Summaries.{IsTotals}
+use Rattle.sl_report_commands.specs.Written.{IsWritten, command_of}
+use Rattle.sl_report_commands.specs.declared.written.Style.{Style}
+use Rattle.sl_report_forms.specs.Tables.{table_of}
+use Rattle.sl_report_forms.specs.declared.heading.Heading.{Heading}
+use Rattle.sl_report_parties.specs.declared.earlier.EarlierParty.{EarlierParty}
+use Rattle.sl_report_tables.specs.Earlier.{is_no_table, party_told, table_parties}
+use Rattle.sl_report_tables.specs.declared.answer.Answer.{Answer}
+use Rattle.sl_report_tables.specs.declared.answer.Shape.TheVariants as shape
+use Rattle.sl_report_tables.specs.declared.answer.Shape.{Shape}
+use Rattle.sl_report_tables.specs.declared.cases.TheConstants.{MAX_BEFORE_BYTES}
+use Rattle.sl_report_tables.specs.declared.counts.Show.TheVariants as show
+use Rattle.sl_report_tables.specs.declared.counts.Show.{Show as Shown}
+use Rattle.sl_terminal_commands.specs.Beside.{AreBeside, AreNames}
+use Rattle.sl_terminal_commands.specs.Files.{Loses}
+use Rattle.sl_terminal_commands.specs.Said.{AreWarnings, IsSaid, Said}
+use Rattle.sl_terminal_commands.specs.Comparisons.{IsComparisonOf}
+use Rattle.sl_terminal_commands.specs.Sums.{given_input}
+use Rattle.sl_terminal_commands.specs.Tellings.{IsOfFault, warns}
+use Rattle.sl_terminal_commands.specs.declared.answered.Answered.{Answered}
 use Rattle.sl_terminal_words.specs.declared.command_line.Request.TheVariants as asked
 use Rattle.sl_terminal_words.specs.declared.command_line.Request.{Request}
 use Rattle.sl_terminal_words.specs.declared.command_line.Show.TheVariants.{Seats, Stage, Steps}
 use Rattle.sl_terminal_words.specs.declared.command_line.Show.{Show}
 use Rattle.sl_terminal_words.specs.declared.reports.Report.TheVariants as what
 use Rattle.sl_terminal_words.specs.declared.reports.Report.{Report}
+use Rattle.sl_terminal_words.specs.declared.reports.ReportForm.TheVariants as form
+use Rattle.sl_terminal_words.specs.declared.reports.ReportForm.{ReportForm}
 
 -- what is shown of a count: its seat table, its steps, or the column of a stage
 abbrev pub IsShown : Show → BookInput → List ℕ → Status → List ℕ → Type 0
@@ -30,38 +52,91 @@ IsShown Seats = IsOutput ShowsSeats
 IsShown Steps = IsOutput ShowsSteps
 IsShown (Stage name) = IsStageOutput name.now
 
--- what compiling writes to standard output, after a code file
-abbrev pub IsListing : BookInput → Status → List ℕ → Type 0
-IsListing input ends text = (file : List ℕ) × IsCompilingOutput input ends file text
+-- the form that is asked for
+abbrev pub shape_of : ReportForm → Shape
+shape_of form.Text = shape.Text
+shape_of form.Markdown = shape.Markdown
+shape_of form.Html = shape.Html
+shape_of form.Json = shape.Json
+shape_of form.Comma = shape.Comma
 
--- the status of a report of one count, with the names of a file and beside the earlier table of another, if these are given
-abbrev pub IsReportOf : (List ℕ → Option (List ℕ)) → List ℕ → List ℕ → (names earlier : Option (List ℕ)) → Status → Type 0
-IsReportOf bytes book returns names earlier ends =
-    (is_refused : Bool) × AreBeside bytes names earlier is_refused
-    × ForKnown (named_input bytes book) (bytes returns) (λ input known. IsReportStatus is_refused input known ends)
+abbrev pub style_of : ReportForm → Language → Style
+style_of form language = record { shape = shape_of form; language = language }
 
--- a command that reports, by its status alone: its tables are no part of this
-abbrev pub IsReportEnd : (List ℕ → Option (List ℕ)) → Report → (names : Option (List ℕ)) → Status → Type 0
-IsReportEnd bytes (what.Count book returns) names ends = IsReportOf bytes book.now returns.now names None ends
-IsReportEnd bytes (what.Short book returns before) names ends = IsReportOf bytes book.now returns.now names (option_map (λ path. path.now) before) ends
-IsReportEnd bytes (what.Stages book returns) names ends = IsReportOf bytes book.now returns.now names None ends
-IsReportEnd bytes (what.Totals returns book) names ends = IsSumming bytes returns.now (given_word (option_map (λ word. word.now) book)) names ends
-IsReportEnd bytes (what.Compare returns books methods) names ends =
-    IsComparing bytes returns.now (compared_words (map (λ word. word.now) books.items)) (map (λ word. word.now) methods.items) names ends
+-- the parties of an earlier seat table, if one is given: where it is not refused they are those that it tells
+abbrev pub AreTold : Option (Bor (List EarlierParty)) → List ℕ → Type 0
+AreTold None text = ⊥
+AreTold (Some found) text = map party_told found.now ≡ table_parties text
 
-abbrev pub IsOutputOf : (List ℕ → Option (List ℕ)) → Request → Status → List ℕ → Type 0
-IsOutputOf bytes (asked.Count show book returns) ends text = ForKnown (named_input bytes book.now) (bytes returns.now) (λ input known. IsShown show input known ends text)
-IsOutputOf bytes (asked.Check book) ends text = IfSome (named_input bytes book.now) (λ input. IsCheckOutput input ends text)
-IsOutputOf bytes (asked.Code book file is_forced) ends text = IfSome (named_input bytes book.now) (λ input. IsListing input ends text)
-IsOutputOf bytes (asked.Run code returns) ends text = ForKnown (bytes code.now) (bytes returns.now) (λ file known. IsRunCode file known ends text)
-IsOutputOf bytes (asked.Law name) ends text = IsLawOutput name.now ends text
-IsOutputOf bytes (asked.Explain code) ends text = ends ≡ status.Done
-IsOutputOf bytes (asked.Report what form names) ends text = IsReportEnd bytes what (option_map (λ path. path.now) names) ends
+abbrev pub AreEarlier : (List ℕ → Option (List ℕ)) → (path : Option (List ℕ)) → Option (Bor (List EarlierParty)) → Type 0
+AreEarlier bytes None found = found ≡ None
+AreEarlier bytes (Some path) found =
+    IfSome (bytes path) (λ text. (nat_lt MAX_BEFORE_BYTES (length text) || is_no_table text) ≡ false → AreTold found text)
 
--- what answers words that ask for no command: a help, or the version
-abbrev pub IsHelp : Status → List ℕ → Type 0
-IsHelp ends text = ends ≡ status.Done
+-- what a command shows of a count, beside the earlier table if it takes one
+abbrev pub IsWhatOf : (List ℕ → Option (List ℕ)) → Report → Shown → Type 0
+IsWhatOf bytes (what.Count book returns) shown = shown ≡ show.Report
+IsWhatOf bytes (what.Stages book returns) shown = shown ≡ show.Stages
+IsWhatOf bytes (what.Short book returns before) shown =
+    (found : Option (Bor (List EarlierParty))) × AreEarlier bytes (option_map (λ path. path.now) before) found × (shown ≡ show.Short found)
+IsWhatOf bytes (what.Totals returns book) shown = ⊥
+IsWhatOf bytes (what.Compare returns books methods) shown = ⊥
 
--- the program: it ends as one of the requests does, or with a help or a refusal of its words. Which words ask for which request, the reader of words says
-abbrev pub IsRun : (List ℕ → Option (List ℕ)) → Option (List ℕ) → Option (List ℕ) → ℕ → Type 0
-IsRun bytes old new number = ((request : Request) × Exits (IsOutputOf bytes request) old new number) ⊎ Exits IsHelp old new number
+-- by the texts of answers, and what the bytes of files are
+module _ (IsText : Shape → Heading → Answer → List ℕ → Type 0) (bytes : List ℕ → Option (List ℕ)) where
+  -- a report of one count: its status and its tables are what the rulebook means on the returns (`IsReport`), with the names of a file and beside an earlier
+  -- table, if these are given; and its text is the text of just this answer
+  pub record IsReportOf (what : Report) (book returns : List ℕ) (names earlier : Option (List ℕ)) (style : Style) (ends : Status) (text : List ℕ) : Type 0 where
+    pub answer : Answer
+    pub status : ends ≡ answer.status
+    pub show : Shown
+    pub shown : IsWhatOf bytes what show
+    pub is_refused : Bool
+    pub beside : AreBeside bytes names earlier is_refused
+    pub tables : ForKnown (named_input bytes book) (bytes returns) (λ input known. IsReport show is_refused input known ends (map table_of answer.sheets.items))
+    pub digests : List (List ℕ)
+    pub written : IsWritten IsText (command_of show) style digests answer text
+
+  -- the totals of returns, with a rulebook and names if they are given: the same
+  pub record IsTotalsOf (returns : List ℕ) (book names : Option (List ℕ)) (style : Style) (ends : Status) (text : List ℕ) : Type 0 where
+    pub answer : Answer
+    pub status : ends ≡ answer.status
+    pub is_refused : Bool
+    pub named : AreNames bytes names is_refused
+    pub tables : ForKnown (given_input bytes book) (bytes returns) (λ input known. IsTotals is_refused input known ends (map table_of answer.sheets.items))
+    pub digests : List (List ℕ)
+    pub written : IsWritten IsText (codes "totals") style digests answer text
+
+  -- a command that reports
+  abbrev pub IsReported : Report → (names : Option (List ℕ)) → Style → Status → List ℕ → (Said → Type 0) → Type 0
+  IsReported (what.Count book returns) names style ends text Says = IsReportOf (what.Count book returns) book.now returns.now names None style ends text
+  IsReported (what.Short book returns before) names style ends text Says =
+      IsReportOf (what.Short book returns before) book.now returns.now names (option_map (λ path. path.now) before) style ends text
+  IsReported (what.Stages book returns) names style ends text Says = IsReportOf (what.Stages book returns) book.now returns.now names None style ends text
+  IsReported (what.Totals returns book) names style ends text Says = IsTotalsOf returns.now (option_map (λ word. word.now) book) names style ends text
+  IsReported (what.Compare returns books methods) names style ends text Says =
+      IsComparisonOf IsText bytes returns.now (map (λ word. word.now) books.items) (map (λ word. word.now) methods.items) names style ends text Says
+
+-- besides by the texts about codes, and in a language
+module _ (IsText : Shape → Heading → Answer → List ℕ → Type 0) (IsAbout : Language → FaultCode → List ℕ → Type 0) (language : Language) (bytes : List ℕ → Option (List ℕ)) where
+  -- a request: its status, its text, and the bytes of the file that it makes; of rulebooks side by side what is said goes with the tables
+  abbrev pub IsOutputOf : Request → Status → (text made : List ℕ) → (Said → Type 0) → Type 0
+  IsOutputOf (asked.Count show book returns) ends text made Says = ForKnown (named_input bytes book.now) (bytes returns.now) (λ input known. IsShown show input known ends text)
+  IsOutputOf (asked.Check book) ends text made Says = IfSome (named_input bytes book.now) (λ input. IsCheckOutput input ends text)
+  IsOutputOf (asked.Code book file is_forced) ends text made Says = IfSome (named_input bytes book.now) (λ input. IsCompilingOutput input ends made text)
+  IsOutputOf (asked.Run code returns) ends text made Says = ForKnown (bytes code.now) (bytes returns.now) (λ file known. IsRunCode file known ends text)
+  IsOutputOf (asked.Law name) ends text made Says = IsLawOutput name.now ends text
+  IsOutputOf (asked.Explain code) ends text made Says = (ends ≡ status.Done) × IsAbout language code text
+  IsOutputOf (asked.Report what form names) ends text made Says =
+      IsReported IsText bytes what (option_map (λ path. path.now) names) (style_of form language) ends text Says
+
+  -- an answer to a request
+  pub record IsAnswerTo (request : Request) (a : Answered) : Type 0 where
+    pub output : IsOutputOf request a.status a.text.items a.made.items (λ s. IsSaid language s a.said.items)
+    -- what is said is of the fault that it met, or warnings of what it counted
+    pub said : IsOfFault bytes request (λ s. IsSaid language s a.said.items)
+    -- where it was done, no more than warnings, and nothing by a request that does not count
+    pub done : a.status ≡ status.Done → AreWarnings language a.said.items
+    pub still : warns request ≡ false → a.status ≡ status.Done → a.said.items ≡ []
+    -- no file is lost by it that must stay
+    pub lost : Loses bytes request → ⊥

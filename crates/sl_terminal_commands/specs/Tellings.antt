@@ -1,6 +1,6 @@
 -- What is told of each request on standard error: the fault that it met, or warnings of what it counted.
 use Rattle.std.specs.Option.{option_map}
-use Rattle.std.specs.Prelude.{Bool, IfSome, List, None, Option, Some, false, map, true, ℕ}
+use Rattle.std.specs.Prelude.{Bool, IfSome, List, None, Option, Some, false, true, ℕ}
 use Rattle.sl_count_calls.specs.Judged.{IsJudged}
 use Rattle.sl_count_calls.specs.declared.judged.Judged.{Judged}
 use Rattle.sl_law_meaning.specs.declared.count.Records.TheVariants as records
@@ -19,7 +19,8 @@ use Rattle.sl_terminal_outside.specs.Inputs.{named_input}
 use Rattle.sl_law_meaning.specs.declared.checked.CheckedBook.{CheckedBook}
 use Rattle.sl_terminal_commands.specs.Beside.{AreBeside}
 use Rattle.sl_terminal_commands.specs.Said.{Said, fault, judged_said, nothing, report_said, said_of}
-use Rattle.sl_terminal_commands.specs.Sums.{IsOfComparison, IsOfSums, compared_words, given_word}
+use Rattle.sl_laws.specs.Books.{law_text}
+use Rattle.sl_terminal_commands.specs.Sums.{IsOfTotals}
 use Rattle.sl_terminal_words.specs.declared.command_line.Request.TheVariants as asked
 use Rattle.sl_terminal_words.specs.declared.command_line.Request.{Request}
 use Rattle.sl_terminal_words.specs.declared.command_line.Show.TheVariants.{Stage, Steps}
@@ -55,13 +56,21 @@ IsOfReport bytes book returns names earlier Says =
     (is_refused : Bool) × (judged : Judged) × AreBeside bytes names earlier is_refused
     × ForKnown (named_input bytes book) (bytes returns) (λ input known. IsJudged records.Kept None input known judged) × Says (report_said is_refused judged)
 
+-- of rulebooks side by side it goes with the tables (`IsComparison`)
 abbrev pub IsOfWhat : (List ℕ → Option (List ℕ)) → Report → (names : Option (List ℕ)) → (Said → Type 0) → Type 0
 IsOfWhat bytes (what.Count book returns) names Says = IsOfReport bytes book.now returns.now names None Says
 IsOfWhat bytes (what.Short book returns before) names Says = IsOfReport bytes book.now returns.now names (option_map (λ path. path.now) before) Says
 IsOfWhat bytes (what.Stages book returns) names Says = IsOfReport bytes book.now returns.now names None Says
-IsOfWhat bytes (what.Totals returns book) names Says = IsOfSums bytes returns.now (given_word (option_map (λ word. word.now) book)) Says
-IsOfWhat bytes (what.Compare returns books methods) names Says =
-    IsOfComparison bytes returns.now (compared_words (map (λ word. word.now) books.items)) (map (λ word. word.now) methods.items) Says
+IsOfWhat bytes (what.Totals returns book) names Says = IsOfTotals bytes returns.now (option_map (λ word. word.now) book) Says
+IsOfWhat bytes (what.Compare returns books methods) names Says = Unit {0}
+
+-- of the name of a statute: that there is none of that name, where there is none
+abbrev pub text_said : (source : Option (List ℕ)) → Said
+text_said (Some source) = nothing
+text_said None = fault (subject input.Book (Some B01))
+
+abbrev pub law_said : List ℕ → Said
+law_said name = text_said (law_text name)
 
 -- of a request: of the fault that it met
 abbrev pub IsOfFault : (List ℕ → Option (List ℕ)) → Request → (Said → Type 0) → Type 0
@@ -69,7 +78,7 @@ IsOfFault bytes (asked.Count show book returns) Says = IsOfCount bytes (shown_re
 IsOfFault bytes (asked.Check book) Says = IsOfBook bytes book.now Says
 IsOfFault bytes (asked.Code book file is_forced) Says = IsOfBook bytes book.now Says
 IsOfFault bytes (asked.Run code returns) Says = IsOfRun bytes code.now returns.now Says
-IsOfFault bytes (asked.Law name) Says = Says (fault (subject input.Book (Some B01)))
+IsOfFault bytes (asked.Law name) Says = Says (law_said name.now)
 IsOfFault bytes (asked.Explain code) Says = Says nothing
 IsOfFault bytes (asked.Report what form names) Says = IsOfWhat bytes what (option_map (λ path. path.now) names) Says
 

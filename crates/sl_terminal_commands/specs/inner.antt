@@ -1,4 +1,6 @@
 -- What only bodies and proofs cite.
+pub mod Comparing
 pub mod Reports
 pub mod Statutes
-pub mod Verdicts
+pub mod Steps
+pub mod Totals

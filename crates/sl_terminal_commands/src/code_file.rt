@@ -1,28 +1,32 @@
 //! The command that writes a code file: a file that would be missed is not written.
 
-ghost use Rattle.std.specs.Prelude.{◌≡◌, IfErr, IfOk, IfSome, List, Some, ℕ};
-ghost use Rattle.sl_desk.specs.Compiling.{IsCompiling};
+ghost use Rattle.std.specs.Prelude.{◌≡◌, [], IfOk, IfSome, OnOk};
+ghost use Rattle.sl_desk.specs.Compiling.{IsCompiling, IsCompilingOutput};
 ghost use Rattle.sl_explain_calls.specs.Codes.{check_subject};
 ghost use Rattle.sl_count_inputs.specs.Judging.{tree_verdict};
+ghost use Rattle.sl_count_inputs.specs.declared.status.Status.TheVariants as status;
 ghost use Rattle.sl_terminal_outside.specs.Inputs.{named_input};
-ghost use Rattle.sl_terminal_commands.specs.Ends.{Ends, IsEarly, IsSilent};
-ghost use Rattle.sl_terminal_commands.specs.Files.{HasCode};
-ghost use Rattle.sl_terminal_commands.specs.Frames.{TellsNothing};
-ghost use Rattle.sl_terminal_commands.specs.Requests.{IsListing};
-ghost use Rattle.sl_terminal_commands.specs.Said.{Says, said_of};
+ghost use Rattle.sl_terminal_commands.specs.Files.{MustStay, may_be_lost_in};
+ghost use Rattle.sl_terminal_commands.specs.Said.{IsSaid, said_of};
 ghost use Rattle.sl_terminal_commands.specs.Tellings.{IsOfBook};
 
+use crate::answered::{Answered, check_text, compiled};
+use crate::commands::Commands;
 use crate::failure::Failure;
-use crate::terminal::Terminal;
-use sl_count_inputs::{Bytes, Input, MAX_CODE_BYTES, ReadBook, Sink, Status, read_all};
-use sl_desk::{Compilation, compilation_of};
+use sl_base_quotients::NoMemory;
+use sl_count_inputs::{Bytes, Input, MAX_CODE_BYTES, ReadBook, read_all};
+use sl_desk::compilation_of;
+use sl_explain_texts::Language;
 use sl_terminal_outside::Outside;
+use std::alloc::Global;
 
 // How each code file begins.
 const OPENING: &[u8] = b"SLC\x01";
 
 // Whether a file of these bytes may be lost: it is empty or a code file.
-fn may_be_lost(bytes: &Bytes) -> bool {
+fn may_be_lost(bytes: &Bytes) -> bool
+    ensures { result ≡ may_be_lost_in bytes.now }
+{
     match bytes {
         Bytes::Whole(bytes) => bytes.is_empty() || bytes.as_slice().starts_with(OPENING),
         Bytes::TooLong => false,
@@ -37,7 +41,25 @@ fn are_of_book(bytes: &Bytes, book: &[u8]) -> bool {
     }
 }
 
-impl<O: Outside, W: Sink, E: Sink> Terminal<O, W, E> {
+// What compiling a rulebook that was read answers.
+fn code_answered(
+    alloc: Global,
+    language: Language,
+    read: &ReadBook<'_>,
+    book: &str,
+) -> Result<Answered, NoMemory>
+    ensures output { IfOk result (λ a. IsCompiling (tree_verdict read.now.verdict) a.status a.made.items a.text.items) }
+    ensures said { IfOk result (λ a. IsSaid language (said_of (check_subject read.now.verdict)) a.said.items) }
+    ensures done { IfOk result (λ a. a.status ≡ status.Done → a.said.items ≡ []) }
+{
+    let said = check_text(alloc, language, book, read)?;
+    match compilation_of(alloc, &read.verdict) {
+        Ok(compilation) => Ok(compiled(compilation, said)),
+        Err(NoMemory) => Err(NoMemory),
+    }
+}
+
+impl<O: Outside> Commands<'_, O> {
     // Looks at the file that lies where the code of a rulebook is to be written.
     fn look_at<'a>(
         &self,
@@ -45,7 +67,7 @@ impl<O: Outside, W: Sink, E: Sink> Terminal<O, W, E> {
         book: &[u8],
         is_forced: bool,
     ) -> Result<(), Failure<'a, O::Reason>>
-        ensures early { IfErr result IsEarly }
+        ensures { OnOk result (MustStay (O.bytes self.now.outside.now path.now) is_forced → ⊥) }
     {
         let Some(mut file) = self.outside.file_at(path) else {
             return Ok(());
@@ -60,89 +82,41 @@ impl<O: Outside, W: Sink, E: Sink> Terminal<O, W, E> {
         }
     }
 
-    // Writes the file of a code, and then its listing to standard output; of a refused rulebook an empty file, and then the refusal.
-    fn write_code<'a>(
-        &mut self,
-        path: &'a str,
-        compilation: &Compilation,
-    ) -> Result<Status, Failure<'a, O::Reason>>
-        ensures ends { Ends (λ status text. (status ≡ compilation.now.answer.status) × (text ≡ compilation.now.answer.text.items))
-            (W.contents self.old.out) (W.contents self.new.out) result }
-        ensures untold { IfOk result (λ _. TellsNothing self.old self.new) }
-        ensures file { O.tells_made self.old.outside → IfOk result (λ status. (status ≡ compilation.now.answer.status)
-            × (O.bytes self.new.outside path.now ≡ Some compilation.now.file.items)) }
-    {
-        match self.outside.create(path) {
-            Ok(mut file) => match compilation.deliver(&mut file, &mut self.out) {
-                Ok(status) => {
-                    self.outside.close(path, file);
-                    Ok(status)
-                }
-                Err(error) => Err(Failure::Call(error)),
-            },
-            Err(reason) => Err(Failure::Unmade { path, reason }),
-        }
-    }
-
-    // Writes what compiling writes of a rulebook, and tells why it is refused, if it is.
-    fn finish_code<'a>(
-        &mut self,
-        read: &ReadBook<'_>,
-        compilation: &Compilation,
-        book: &str,
-        path: &'a str,
-    ) -> Result<Status, Failure<'a, O::Reason>>
-        ensures ends { Ends (λ status text. (status ≡ compilation.now.answer.status) × (text ≡ compilation.now.answer.text.items))
-            (W.contents self.old.out) (W.contents self.new.out) result }
-        ensures silent { IfOk result (λ ends. IsSilent self.old.is_quiet ends → self.new.err ≡ self.old.err) }
-        ensures told { IfOk result (λ _. Says E.contents self.old self.new (said_of (check_subject read.now.verdict))) }
-        ensures file { O.tells_made self.old.outside → IfOk result (λ status. (status ≡ compilation.now.answer.status)
-            × (O.bytes self.new.outside path.now ≡ Some compilation.now.file.items)) }
-    {
-        let status = self.write_code(path, compilation)?;
-        self.tell_book(status, book, read);
-        Ok(status)
-    }
-
-    // Compiles a rulebook that was read, if the file at the path may be lost.
-    #[tactic(auto, using(crate::proofs::Deliveries::ends_early))]
+    // What compiling a rulebook that was read answers, if the file at the path may be lost.
     fn compile_read<'a>(
-        &mut self,
+        &self,
         read: &ReadBook<'_>,
         book: &str,
         path: &'a str,
         is_forced: bool,
-    ) -> Result<Status, Failure<'a, O::Reason>>
-        ensures ends { Ends (λ status text. (code : List ℕ) × IsCompiling (tree_verdict read.now.verdict) status code text)
-            (W.contents self.old.out) (W.contents self.new.out) result }
-        ensures silent { IfOk result (λ ends. IsSilent self.old.is_quiet ends → self.new.err ≡ self.old.err) }
-        ensures told { IfOk result (λ _. Says E.contents self.old self.new (said_of (check_subject read.now.verdict))) }
-        ensures file { O.tells_made self.old.outside → IfOk result (λ status. (code text : List ℕ)
-            × IsCompiling (tree_verdict read.now.verdict) status code text × (O.bytes self.new.outside path.now ≡ Some code)) }
+    ) -> Result<Answered, Failure<'a, O::Reason>>
+        ensures output { IfOk result (λ a. IsCompiling (tree_verdict read.now.verdict) a.status a.made.items a.text.items) }
+        ensures said { IfOk result (λ a. IsSaid self.now.language (said_of (check_subject read.now.verdict)) a.said.items) }
+        ensures done { IfOk result (λ a. a.status ≡ status.Done → a.said.items ≡ []) }
+        ensures lost { OnOk result (MustStay (O.bytes self.now.outside.now path.now) is_forced → ⊥) }
     {
         self.look_at(path, read.text.as_slice(), is_forced)?;
-        let compilation = compilation_of(self.alloc, &read.verdict)?;
-        self.finish_code(read, &compilation, book, path)
+        Ok(code_answered(self.alloc, self.language, read, book)?)
     }
 
-    // Compiles a rulebook. Where it is refused, the file is left empty.
+    // What compiling a rulebook answers. Where it is refused, the file is left empty.
     pub(crate) fn code<'a>(
-        &mut self,
+        &self,
         book: &'a str,
         path: &'a str,
         is_forced: bool,
-    ) -> Result<Status, Failure<'a, O::Reason>>
-        ensures ends { Ends (λ status text. IfSome (named_input (O.bytes self.old.outside) book.now) (λ input.
-            IsListing input status text)) (W.contents self.old.out) (W.contents self.new.out) result }
-        ensures silent { IfOk result (λ ends. IsSilent self.old.is_quiet ends → self.new.err ≡ self.old.err) }
-        ensures told { IfOk result (λ _. IsOfBook (O.bytes self.old.outside) book.now (Says E.contents self.old self.new)) }
-        ensures file { O.tells_made self.old.outside → IfOk result (λ ends. HasCode (O.bytes self.old.outside) book.now ends (O.bytes self.new.outside path.now)) }
+    ) -> Result<Answered, Failure<'a, O::Reason>>
+        ensures output { IfOk result (λ a. IfSome (named_input (O.bytes self.now.outside.now) book.now) (λ input.
+            IsCompilingOutput input a.status a.made.items a.text.items)) }
+        ensures said { IfOk result (λ a. IsOfBook (O.bytes self.now.outside.now) book.now (λ s. IsSaid self.now.language s a.said.items)) }
+        ensures done { IfOk result (λ a. a.status ≡ status.Done → a.said.items ≡ []) }
+        ensures lost { OnOk result (MustStay (O.bytes self.now.outside.now path.now) is_forced → ⊥) }
     {
         match self.book_at(book) {
             Ok(named) => {
-                let ended = self.compile_read(&named.read, book, path, is_forced);
+                let answered = self.compile_read(&named.read, book, path, is_forced);
                 drop(named);
-                ended
+                answered
             }
             Err(failure) => Err(failure),
         }

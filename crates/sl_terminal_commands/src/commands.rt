@@ -1,77 +1,215 @@
-//! The commands that do not report. Each judges its inputs, writes what they come to, and tells why it was not done.
+//! What the commands that do not report answer, over files. Each judges its inputs once.
 
-ghost use Rattle.std.specs.Io.KnownBytes.{Keeps};
-ghost use Rattle.std.specs.Prelude.{◌≡◌, IfErr, IfOk, IfSome, Some, false, true};
+ghost use Rattle.std.specs.Prelude.{◌≡◌, [], IfOk, IfSome, Some};
 ghost use Rattle.sl_count_calls.specs.Shows.{IsShownOutput};
-ghost use Rattle.sl_count_calls.specs.Views.{records_for, stage_of};
+ghost use Rattle.sl_count_calls.specs.Suiting.{IsFor};
+ghost use Rattle.sl_count_calls.specs.Views.{IsAnswerOf, records_for, stage_of};
+ghost use Rattle.sl_count_calls.specs.Fitting.{FitsJudged as FitsCount};
+ghost use Rattle.sl_count_calls.specs.Judged.{IsJudged};
 ghost use Rattle.sl_desk.specs.Checking.{IsCheck, IsCheckOutput};
 ghost use Rattle.sl_desk.specs.JudgedRuns.{FitsJudged, IsJudged as IsJudgedRun, IsRunAnswer};
 ghost use Rattle.sl_desk.specs.Running.{IsRunCode};
 ghost use Rattle.sl_explain_texts.specs.declared.code.FaultCode.TheVariants.{B01};
 ghost use Rattle.sl_explain_calls.specs.Codes.{check_subject, run_subject, subject};
 ghost use Rattle.sl_count_inputs.specs.Judging.{tree_verdict};
-ghost use Rattle.sl_count_inputs.specs.Library.{IsLawOutput};
+ghost use Rattle.sl_count_inputs.specs.Library.{IsLawOutput, unknown_law};
 ghost use Rattle.sl_count_inputs.specs.Reading.{ForKnown};
-ghost use Rattle.sl_count_inputs.specs.Statuses.{status_number};
 ghost use Rattle.sl_count_inputs.specs.declared.status.Input.TheVariants as input;
 ghost use Rattle.sl_count_inputs.specs.declared.status.Status.TheVariants as status;
 ghost use Rattle.sl_terminal_outside.specs.Inputs.{named_input};
-ghost use Rattle.sl_terminal_commands.specs.Ends.{Ends, IsEarly, IsSilent};
-ghost use Rattle.sl_terminal_commands.specs.Files.{LeavesCode};
-ghost use Rattle.sl_terminal_commands.specs.Frames.{OnlyTells, TellsNothing};
-ghost use Rattle.sl_terminal_commands.specs.Requests.{IsOutputOf, IsShown};
-ghost use Rattle.sl_terminal_commands.specs.Said.{OnlyWarns, Says, fault, said_of};
-ghost use Rattle.sl_terminal_commands.specs.Tellings.{IsOfBook, IsOfCount, IsOfFault, IsOfRun, shown_records, shown_stage, warns};
+ghost use Rattle.sl_terminal_commands.specs.Requests.{IsAnswerTo, IsShown};
+ghost use Rattle.sl_terminal_commands.specs.Said.{AreWarnings, IsSaid, fault, judged_said, said_of};
+ghost use Rattle.sl_terminal_commands.specs.Tellings.{IsOfBook, IsOfCount, IsOfRun, law_said, shown_records, shown_stage};
 
+use crate::answered::{
+    Answered, ReadFile, alone, check_text, count_text, explained_text, run_text, with_said,
+};
 use crate::failure::Failure;
-use crate::telling::ReadFile;
-use crate::terminal::Terminal;
-use sl_count_calls::Answer;
-use sl_count_inputs::{Input, ReadBook, RefusedBook, Sink, Status};
-use sl_desk::{ReadRun, View, check_answer, judge_run, law_text, run_answer, show};
-use sl_explain_calls::{explain_book, explain_run};
-use sl_explain_codes::text_about;
-use sl_explain_texts::FaultCode;
+use crate::speech::Speech;
+use sl_base_quotients::NoMemory;
+use sl_count_calls::{Answer, Read, View, answer_of, judge_read};
+use sl_count_inputs::{Input, ReadBook, RefusedBook, Status, refused};
+use sl_desk::{ReadRun, check_answer, judge_run, run_answer};
+use sl_explain_calls::explain_book;
+use sl_explain_texts::{FaultCode, Language};
+use sl_laws::law;
+use sl_report_commands::Forms;
 use sl_terminal_outside::{Outside, open, open_book};
 use sl_terminal_words::{Request, Show};
+use std::alloc::Global;
 
-impl<O: Outside, W: Sink, E: Sink> Terminal<O, W, E> {
-    // Shows what a count comes to.
-    #[tactic(auto, using(crate::proofs::Deliveries::ends_early))]
-    fn count<'a>(
-        &mut self,
+// What a count that was read answers.
+fn count_answered(
+    alloc: Global,
+    language: Language,
+    view: View<'_>,
+    read: &Read<'_>,
+    book: &str,
+    returns: &str,
+) -> Result<Answered, NoMemory>
+    requires { IsFor view read.now.judged }
+    ensures output { IfOk result (λ a. IsAnswerOf view.entry read.now.judged a.status a.text.items) }
+    ensures said { IfOk result (λ a. IsSaid language (judged_said read.now.judged) a.said.items) }
+    ensures done { IfOk result (λ a. a.status ≡ status.Done → AreWarnings language a.said.items) }
+{
+    let said = count_text(alloc, language, book, returns, read)?;
+    match answer_of(view, alloc, &read.judged) {
+        Ok(answer) => Ok(with_said(alloc, answer, said)),
+        Err(NoMemory) => Err(NoMemory),
+    }
+}
+
+// What checking a rulebook that was read answers.
+fn check_answered(
+    alloc: Global,
+    language: Language,
+    read: &ReadBook<'_>,
+    book: &str,
+) -> Result<Answered, NoMemory>
+    ensures output { IfOk result (λ a. IsCheck (tree_verdict read.now.verdict) a.status a.text.items) }
+    ensures said { IfOk result (λ a. IsSaid language (said_of (check_subject read.now.verdict)) a.said.items) }
+    ensures done { IfOk result (λ a. a.status ≡ status.Done → a.said.items ≡ []) }
+{
+    let said = check_text(alloc, language, book, read)?;
+    match check_answer(alloc, &read.verdict) {
+        Ok(answer) => Ok(with_said(alloc, answer, said)),
+        Err(NoMemory) => Err(NoMemory),
+    }
+}
+
+// What running a code file on returns answers, which were read.
+fn run_answered(
+    alloc: Global,
+    language: Language,
+    read: &ReadRun,
+    code: &str,
+    returns: &str,
+) -> Result<Answered, NoMemory>
+    requires { FitsJudged read.now.judged }
+    ensures output { IfOk result (λ a. IsRunAnswer read.now.judged a.status a.text.items) }
+    ensures said { IfOk result (λ a. IsSaid language (said_of (run_subject read.now.judged)) a.said.items) }
+    ensures done { IfOk result (λ a. a.status ≡ status.Done → a.said.items ≡ []) }
+{
+    let said = run_text(alloc, language, code, returns, read)?;
+    match run_answer(alloc, &read.judged) {
+        Ok(answer) => Ok(with_said(alloc, answer, said)),
+        Err(NoMemory) => Err(NoMemory),
+    }
+}
+
+// That the library has no statute of a name, as it is explained.
+fn unknown_text(alloc: Global, language: Language, name: &str) -> Result<Vec<u8>, NoMemory>
+    ensures { IfOk result (λ text. IsSaid language (fault (subject input.Book (Some B01))) text.items) }
+{
+    let file = ReadFile {
+        input: Input::Book,
+        path: name,
+        bytes: b"",
+    };
+    let refused = RefusedBook::UnknownStatute(name);
+    let explained = explain_book(alloc, language, b"", &refused)?;
+    explained_text(alloc, language, &[file], &explained)
+}
+
+// The line that refuses the name of a statute, and why.
+fn unknown_answered(alloc: Global, language: Language, name: &str) -> Result<Answered, NoMemory>
+    ensures status { IfOk result (λ a. a.status ≡ status.Refused) }
+    ensures line { IfOk result (λ a. a.text.items ≡ unknown_law name.now) }
+    ensures said { IfOk result (λ a. IsSaid language (fault (subject input.Book (Some B01))) a.said.items) }
+{
+    let said = unknown_text(alloc, language, name)?;
+    match refused(alloc, b"law", name.as_bytes()) {
+        Ok(line) => Ok(with_said(alloc, Answer::refused(line), said)),
+        Err(NoMemory) => Err(NoMemory),
+    }
+}
+
+// What writing a statute of the library answers.
+fn law_answered(alloc: Global, language: Language, name: &str) -> Result<Answered, NoMemory>
+    ensures output { IfOk result (λ a. IsLawOutput name.now a.status a.text.items) }
+    ensures said { IfOk result (λ a. IsSaid language (law_said name.now) a.said.items) }
+    ensures done { IfOk result (λ a. a.status ≡ status.Done → a.said.items ≡ []) }
+{
+    match law(name) {
+        Some(text) => {
+            let text = Vec::from_slice(alloc, text.as_bytes())?;
+            Ok(alone(alloc, Status::Done, text))
+        }
+        None => unknown_answered(alloc, language, name),
+    }
+}
+
+/// The commands over what lies outside, in a language.
+#[derive(Drop)]
+pub(crate) struct Commands<'o, O> {
+    pub(crate) outside: &'o O,
+    pub(crate) alloc: Global,
+    pub(crate) language: Language,
+}
+
+impl<O: Outside> Commands<'_, O> {
+    // What a rulebook and returns come to, as it is to be shown.
+    fn counted_at<'a>(
+        &self,
         view: View<'a>,
         book: &'a str,
         returns: &'a str,
-    ) -> Result<Status, Failure<'a, O::Reason>>
-        ensures ends { Ends (λ status text. ForKnown (named_input (O.bytes self.old.outside) book.now) (O.bytes self.old.outside returns.now) (λ input bytes.
-            IsShownOutput view.entry input bytes status text)) (W.contents self.old.out) (W.contents self.new.out) result }
-        ensures quiet { IfOk result (λ _. self.old.is_quiet ≡ true → self.new.err ≡ self.old.err) }
-        ensures done { IfOk result (λ ends. ends ≡ status.Done → OnlyWarns E.contents self.old self.new) }
-        ensures told { IfOk result (λ _. IsOfCount (O.bytes self.old.outside) (records_for view.entry) (stage_of view.entry) book.now returns.now (Says E.contents self.old self.new)) }
+    ) -> Result<Read<'a>, Failure<'a, O::Reason>>
+        ensures judged { IfOk result (λ read. ForKnown (named_input (O.bytes self.now.outside.now) book.now) (O.bytes self.now.outside.now returns.now) (λ input bytes.
+            IsJudged (records_for view.entry) (stage_of view.entry) input bytes read.judged)) }
+        ensures fits { IfOk result (λ read. FitsCount (records_for view.entry) read.judged) }
     {
-        let alloc = self.alloc;
-        let mut source = open_book(&self.outside, book)?;
-        let mut file = open(&self.outside, returns, Input::Returns)?;
-        let shown = show(view, alloc, &mut source, &mut file, &mut self.out)?;
-        let status = shown.status;
-        self.tell_read(status, book, returns, &shown.read);
-        drop(shown);
-        Ok(status)
+        let mut source = open_book(self.outside, book)?;
+        let mut file = open(self.outside, returns, Input::Returns)?;
+        Ok(judge_read(
+            view.records(),
+            self.alloc,
+            &mut source,
+            view.stage(),
+            &mut file,
+        )?)
     }
 
-    // Shows of a count what is asked for.
+    // What a count answers.
+    fn count<'a>(
+        &self,
+        view: View<'a>,
+        book: &'a str,
+        returns: &'a str,
+    ) -> Result<Answered, Failure<'a, O::Reason>>
+        ensures output { IfOk result (λ a. ForKnown (named_input (O.bytes self.now.outside.now) book.now) (O.bytes self.now.outside.now returns.now) (λ input bytes.
+            IsShownOutput view.entry input bytes a.status a.text.items)) }
+        ensures said { IfOk result (λ a. IsOfCount (O.bytes self.now.outside.now) (records_for view.entry) (stage_of view.entry) book.now returns.now (λ s. IsSaid self.now.language s a.said.items)) }
+        ensures done { IfOk result (λ a. a.status ≡ status.Done → AreWarnings self.now.language a.said.items) }
+    {
+        match self.counted_at(view, book, returns) {
+            Ok(read) => {
+                let answered = count_answered(
+                    self.alloc,
+                    self.language,
+                    view,
+                    &read,
+                    book,
+                    returns,
+                );
+                drop(read);
+                Ok(answered?)
+            }
+            Err(failure) => Err(failure),
+        }
+    }
+
+    // What is asked for of a count.
     fn show_count<'a>(
-        &mut self,
+        &self,
         show: Show<'a>,
         book: &'a str,
         returns: &'a str,
-    ) -> Result<Status, Failure<'a, O::Reason>>
-        ensures ends { Ends (λ status text. ForKnown (named_input (O.bytes self.old.outside) book.now) (O.bytes self.old.outside returns.now) (λ input bytes.
-            IsShown show.entry input bytes status text)) (W.contents self.old.out) (W.contents self.new.out) result }
-        ensures quiet { IfOk result (λ _. self.old.is_quiet ≡ true → self.new.err ≡ self.old.err) }
-        ensures done { IfOk result (λ ends. ends ≡ status.Done → OnlyWarns E.contents self.old self.new) }
-        ensures told { IfOk result (λ _. IsOfCount (O.bytes self.old.outside) (shown_records show.entry) (shown_stage show.entry) book.now returns.now (Says E.contents self.old self.new)) }
+    ) -> Result<Answered, Failure<'a, O::Reason>>
+        ensures output { IfOk result (λ a. ForKnown (named_input (O.bytes self.now.outside.now) book.now) (O.bytes self.now.outside.now returns.now) (λ input bytes.
+            IsShown show.entry input bytes a.status a.text.items)) }
+        ensures said { IfOk result (λ a. IsOfCount (O.bytes self.now.outside.now) (shown_records show.entry) (shown_stage show.entry) book.now returns.now (λ s. IsSaid self.now.language s a.said.items)) }
+        ensures done { IfOk result (λ a. a.status ≡ status.Done → AreWarnings self.now.language a.said.items) }
     {
         match show {
             Show::Seats => self.count(View::Seats, book, returns),
@@ -80,61 +218,18 @@ impl<O: Outside, W: Sink, E: Sink> Terminal<O, W, E> {
         }
     }
 
-    // Writes an answer.
-    fn write_answer<'a>(&mut self, answer: &Answer) -> Result<Status, Failure<'a, O::Reason>>
-        ensures ends { Ends (λ status text. (status ≡ answer.now.status) × (text ≡ answer.now.text.items)) (W.contents self.old.out) (W.contents self.new.out) result }
-        ensures outside { self.new.outside ≡ self.old.outside }
-        ensures untold { TellsNothing self.old self.new }
-    {
-        match answer.deliver(&mut self.out) {
-            Ok(status) => Ok(status),
-            Err(error) => Err(Failure::Call(error)),
-        }
-    }
-
-    // Writes what checking comes to, and tells why a rulebook is refused, if it is.
-    fn finish_check<'a>(
-        &mut self,
-        read: &ReadBook<'_>,
-        answer: &Answer,
-        book: &'a str,
-    ) -> Result<Status, Failure<'a, O::Reason>>
-        ensures ends { Ends (λ status text. (status ≡ answer.now.status) × (text ≡ answer.now.text.items)) (W.contents self.old.out) (W.contents self.new.out) result }
-        ensures silent { IfOk result (λ ends. IsSilent self.old.is_quiet ends → self.new.err ≡ self.old.err) }
-        ensures told { IfOk result (λ _. Says E.contents self.old self.new (said_of (check_subject read.now.verdict))) }
-    {
-        let status = self.write_answer(answer)?;
-        self.tell_book(status, book, read);
-        Ok(status)
-    }
-
-    // Checks a rulebook that was read.
-    #[tactic(auto, using(crate::proofs::Deliveries::ends_early))]
-    fn check_read<'a>(
-        &mut self,
-        read: &ReadBook<'_>,
-        book: &'a str,
-    ) -> Result<Status, Failure<'a, O::Reason>>
-        ensures ends { Ends (IsCheck (tree_verdict read.now.verdict)) (W.contents self.old.out) (W.contents self.new.out) result }
-        ensures silent { IfOk result (λ ends. IsSilent self.old.is_quiet ends → self.new.err ≡ self.old.err) }
-        ensures told { IfOk result (λ _. Says E.contents self.old self.new (said_of (check_subject read.now.verdict))) }
-    {
-        let answer = check_answer(self.alloc, &read.verdict)?;
-        self.finish_check(read, &answer, book)
-    }
-
-    // Checks a rulebook.
-    fn check<'a>(&mut self, book: &'a str) -> Result<Status, Failure<'a, O::Reason>>
-        ensures ends { Ends (λ status text. IfSome (named_input (O.bytes self.old.outside) book.now) (λ input.
-            IsCheckOutput input status text)) (W.contents self.old.out) (W.contents self.new.out) result }
-        ensures silent { IfOk result (λ ends. IsSilent self.old.is_quiet ends → self.new.err ≡ self.old.err) }
-        ensures told { IfOk result (λ _. IsOfBook (O.bytes self.old.outside) book.now (Says E.contents self.old self.new)) }
+    // What checking a rulebook answers.
+    fn check<'a>(&self, book: &'a str) -> Result<Answered, Failure<'a, O::Reason>>
+        ensures output { IfOk result (λ a. IfSome (named_input (O.bytes self.now.outside.now) book.now) (λ input.
+            IsCheckOutput input a.status a.text.items)) }
+        ensures said { IfOk result (λ a. IsOfBook (O.bytes self.now.outside.now) book.now (λ s. IsSaid self.now.language s a.said.items)) }
+        ensures done { IfOk result (λ a. a.status ≡ status.Done → a.said.items ≡ []) }
     {
         match self.book_at(book) {
             Ok(named) => {
-                let ended = self.check_read(&named.read, book);
+                let answered = check_answered(self.alloc, self.language, &named.read, book);
                 drop(named);
-                ended
+                Ok(answered?)
             }
             Err(failure) => Err(failure),
         }
@@ -142,137 +237,67 @@ impl<O: Outside, W: Sink, E: Sink> Terminal<O, W, E> {
 
     // What a code file and returns come to.
     fn run_at<'a>(&self, code: &'a str, returns: &'a str) -> Result<ReadRun, Failure<'a, O::Reason>>
-        ensures judged { IfOk result (λ read. ForKnown (O.bytes self.now.outside code.now) (O.bytes self.now.outside returns.now) (λ file bytes.
+        ensures judged { IfOk result (λ read. ForKnown (O.bytes self.now.outside.now code.now) (O.bytes self.now.outside.now returns.now) (λ file bytes.
             IsJudgedRun file bytes read.judged)) }
         ensures fits { IfOk result (λ read. FitsJudged read.judged) }
-        ensures early { IfErr result IsEarly }
     {
-        let mut source = open(&self.outside, code, Input::Code)?;
-        let mut file = open(&self.outside, returns, Input::Returns)?;
+        let mut source = open(self.outside, code, Input::Code)?;
+        let mut file = open(self.outside, returns, Input::Returns)?;
         Ok(judge_run(self.alloc, &mut source, &mut file)?)
     }
 
-    // Writes what a code file and returns come to, and tells why they were not run to a table.
-    fn finish_run<'a>(
-        &mut self,
-        read: &ReadRun,
-        answer: &Answer,
-        code: &'a str,
-        returns: &'a str,
-    ) -> Result<Status, Failure<'a, O::Reason>>
-        ensures ends { Ends (λ status text. (status ≡ answer.now.status) × (text ≡ answer.now.text.items)) (W.contents self.old.out) (W.contents self.new.out) result }
-        ensures silent { IfOk result (λ ends. IsSilent self.old.is_quiet ends → self.new.err ≡ self.old.err) }
-        ensures told { IfOk result (λ _. Says E.contents self.old self.new (said_of (run_subject read.now.judged))) }
-    {
-        let status = self.write_answer(answer)?;
-        let files = [
-            ReadFile {
-                input: Input::Code,
-                path: code,
-                bytes: read.file.as_slice(),
-            },
-            ReadFile {
-                input: Input::Returns,
-                path: returns,
-                bytes: read.returns.as_slice(),
-            },
-        ];
-        let explained = explain_run(self.alloc, self.language, read);
-        self.tell(status, &files, explained);
-        Ok(status)
-    }
-
-    // Writes what a code file and returns come to that were read.
-    #[tactic(auto, using(crate::proofs::Deliveries::ends_early))]
-    fn run_read<'a>(
-        &mut self,
-        read: &ReadRun,
-        code: &'a str,
-        returns: &'a str,
-    ) -> Result<Status, Failure<'a, O::Reason>>
-        requires fits { FitsJudged read.now.judged }
-        ensures ends { Ends (IsRunAnswer read.now.judged) (W.contents self.old.out) (W.contents self.new.out) result }
-        ensures silent { IfOk result (λ ends. IsSilent self.old.is_quiet ends → self.new.err ≡ self.old.err) }
-        ensures told { IfOk result (λ _. Says E.contents self.old self.new (said_of (run_subject read.now.judged))) }
-    {
-        let answer = run_answer(self.alloc, &read.judged)?;
-        self.finish_run(read, &answer, code, returns)
-    }
-
-    // Runs a code file on returns.
+    // What running a code file on returns answers.
     fn run_code<'a>(
-        &mut self,
+        &self,
         code: &'a str,
         returns: &'a str,
-    ) -> Result<Status, Failure<'a, O::Reason>>
-        ensures ends { Ends (λ status text. ForKnown (O.bytes self.old.outside code.now) (O.bytes self.old.outside returns.now) (λ file bytes.
-            IsRunCode file bytes status text)) (W.contents self.old.out) (W.contents self.new.out) result }
-        ensures silent { IfOk result (λ ends. IsSilent self.old.is_quiet ends → self.new.err ≡ self.old.err) }
-        ensures told { IfOk result (λ _. IsOfRun (O.bytes self.old.outside) code.now returns.now (Says E.contents self.old self.new)) }
+    ) -> Result<Answered, Failure<'a, O::Reason>>
+        ensures output { IfOk result (λ a. ForKnown (O.bytes self.now.outside.now code.now) (O.bytes self.now.outside.now returns.now) (λ file bytes.
+            IsRunCode file bytes a.status a.text.items)) }
+        ensures said { IfOk result (λ a. IsOfRun (O.bytes self.now.outside.now) code.now returns.now (λ s. IsSaid self.now.language s a.said.items)) }
+        ensures done { IfOk result (λ a. a.status ≡ status.Done → a.said.items ≡ []) }
     {
         match self.run_at(code, returns) {
             Ok(read) => {
-                let ended = self.run_read(&read, code, returns);
+                let answered = run_answered(self.alloc, self.language, &read, code, returns);
                 drop(read);
-                ended
+                Ok(answered?)
             }
             Err(failure) => Err(failure),
         }
     }
 
-    // Tells that the library has no statute of a name.
-    fn tell_unknown(&mut self, status: Status, name: &str)
-        ensures only { OnlyTells self.old self.new }
-        ensures silent { IsSilent self.old.is_quiet status → self.new.err ≡ self.old.err }
-        ensures told { Says E.contents self.old self.new (fault (subject input.Book (Some B01))) }
+    // What there is to say of the code of a fault.
+    fn explain<'a, S: Speech>(
+        &self,
+        speech: &S,
+        code: FaultCode,
+    ) -> Result<Answered, Failure<'a, O::Reason>>
+        ensures status { IfOk result (λ a. a.status ≡ status.Done) }
+        ensures text { IfOk result (λ a. S.is_about speech.now self.now.language code a.text.items) }
+        ensures said { IfOk result (λ a. a.said.items ≡ []) }
     {
-        let file = ReadFile {
-            input: Input::Book,
-            path: name,
-            bytes: b"",
-        };
-        let refused = RefusedBook::UnknownStatute(name);
-        let explained = explain_book(self.alloc, self.language, b"", &refused);
-        self.tell_refusal(status, file, explained);
+        let text = speech.about(self.alloc, self.language, code)?;
+        Ok(alone(self.alloc, Status::Done, text))
     }
 
-    // Writes a statute of the library.
-    fn law<'a>(&mut self, name: &'a str) -> Result<Status, Failure<'a, O::Reason>>
-        ensures ends { Ends (IsLawOutput name.now) (W.contents self.old.out) (W.contents self.new.out) result }
-        ensures silent { IfOk result (λ ends. IsSilent self.old.is_quiet ends → self.new.err ≡ self.old.err) }
-        ensures told { IfOk result (λ _. Says E.contents self.old self.new (fault (subject input.Book (Some B01)))) }
+    // What a statute of the library answers.
+    fn law<'a>(&self, name: &'a str) -> Result<Answered, Failure<'a, O::Reason>>
+        ensures output { IfOk result (λ a. IsLawOutput name.now a.status a.text.items) }
+        ensures said { IfOk result (λ a. IsSaid self.now.language (law_said name.now) a.said.items) }
+        ensures done { IfOk result (λ a. a.status ≡ status.Done → a.said.items ≡ []) }
     {
-        match law_text(name, &mut self.out) {
-            Ok(status) => {
-                self.tell_unknown(status, name);
-                Ok(status)
-            }
-            Err(error) => Err(Failure::Call(error)),
-        }
+        Ok(law_answered(self.alloc, self.language, name)?)
     }
 
-    // Writes what there is to say of the code of a fault.
-    #[tactic(auto, using(crate::proofs::Deliveries::ends_early))]
-    fn explain<'a>(&mut self, code: FaultCode) -> Result<Status, Failure<'a, O::Reason>>
-        ensures ends { Ends (λ ends _. ends ≡ status.Done) (W.contents self.old.out) (W.contents self.new.out) result }
-        ensures silent { IfOk result (λ ends. IsSilent self.old.is_quiet ends → self.new.err ≡ self.old.err) }
-        ensures told { IfOk result (λ _. Keeps (E.contents self.old.err) (E.contents self.new.err)) }
-    {
-        let text = text_about(self.alloc, self.language, code)?;
-        self.write_text(Status::Done, text.as_slice())
-    }
-
-    // Runs a command.
-    pub(crate) fn ending<'a>(
-        &mut self,
+    /// What a request answers, from the files that it names. Nothing is written.
+    pub(crate) fn answer<'a, F: Forms, S: Speech>(
+        &self,
+        forms: &F,
+        speech: &S,
         request: Request<'a>,
-    ) -> Result<Status, Failure<'a, O::Reason>>
-        ensures ends { Ends (IsOutputOf (O.bytes self.old.outside) request.entry) (W.contents self.old.out) (W.contents self.new.out) result }
-        ensures quiet { IfOk result (λ _. self.old.is_quiet ≡ true → self.new.err ≡ self.old.err) }
-        ensures done { IfOk result (λ ends. ends ≡ status.Done → OnlyWarns E.contents self.old self.new) }
-        ensures still { warns request.entry ≡ false → IfOk result (λ ends. ends ≡ status.Done → self.new.err ≡ self.old.err) }
-        ensures told { IfOk result (λ _. IsOfFault (O.bytes self.old.outside) request.entry (Says E.contents self.old self.new)) }
-        ensures file { O.tells_made self.old.outside → IfOk result (λ ends. LeavesCode (O.bytes self.old.outside) request.entry (O.bytes self.new.outside) (status_number ends)) }
+    ) -> Result<Answered, Failure<'a, O::Reason>>
+        ensures { IfOk result (IsAnswerTo (F.is_text forms.now) (S.is_about speech.now) self.now.language (O.bytes self.now.outside.now) request.entry) }
     {
         match request {
             Request::Count {
@@ -288,8 +313,8 @@ impl<O: Outside, W: Sink, E: Sink> Terminal<O, W, E> {
             } => self.code(book, file, is_forced),
             Request::Run { code, returns } => self.run_code(code, returns),
             Request::Law { name } => self.law(name),
-            Request::Explain { code } => self.explain(code),
-            Request::Report { what, form, names } => self.report(&what, form, names),
+            Request::Explain { code } => self.explain(speech, code),
+            Request::Report { what, form, names } => self.report(forms, &what, form, names),
         }
     }
 }

@@ -2,6 +2,7 @@
 
 ghost use Rattle.std.specs.Prelude.{◌≡◌};
 ghost use Rattle.sl_count_inputs.specs.declared.status.DeskError.TheVariants as fault;
+ghost use Rattle.sl_terminal_commands.specs.Failures.{failure_number};
 ghost use Rattle.sl_terminal_commands.specs.declared.failure.Failure.TheVariants as failure;
 
 use sl_base_quotients::NoMemory;
@@ -22,6 +23,18 @@ pub enum Failure<'a, E> {
     Same(&'a str),
     /// A call failed.
     Call(DeskError),
+}
+
+impl<E> Failure<'_, E> {
+    /// The exit status: 1 where a file would be lost, and 5 after an error.
+    pub fn number(&self) -> u8
+        ensures { result ≡ failure_number self.now }
+    {
+        match self {
+            Failure::Kept(_) | Failure::Same(_) => 1,
+            Failure::Unopened(_) | Failure::Unmade { .. } | Failure::Call(_) => 5,
+        }
+    }
 }
 
 impl<'a, E> From<Unopened<'a, E>> for Failure<'a, E> {

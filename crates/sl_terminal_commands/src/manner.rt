@@ -1,59 +1,58 @@
-//! How the texts of `totals` and `compare` are written, and the digests of their inputs.
+//! How the texts of `compare` are written, and the digests of their inputs.
 
-ghost use Rattle.std.specs.Prelude.{◌≡◌, ◌++◌, IfOk, OnOk, flat_map, option_map};
+ghost use Rattle.std.specs.Prelude.{◌≡◌, ◌++◌, IfOk, OnOk, codes, flat_map};
+ghost use Rattle.sl_report_commands.specs.Written.{IsWritten};
 ghost use Rattle.sl_report_commands.specs.Digests.{digests};
-ghost use Rattle.sl_terminal_commands.specs.Digested.{called_digests, named_digest, read_digest, sums_digests};
+ghost use Rattle.sl_terminal_commands.specs.Digested.{called_digests, named_digest, read_digest};
 
+use crate::answered::Answered;
 use crate::reports::book_bytes;
 use crate::sums::{NamedBook, NamedReturns};
 use sl_base_quotients::NoMemory;
-use sl_explain_calls::Explained;
 use sl_report_commands::{
-    Answer, DigestedInput, Style, digested_book, digested_returns, push_digested, refusal_of,
-    text_of, told_of,
+    Answer, DigestedInput, Forms, Style, Told, digested_book, digested_returns, push_digested,
+    refusal_of, text_by,
 };
 use std::alloc::Global;
 
-/// How the texts of a command are written: its word, the form and the language, and the digests of its inputs.
-#[derive(Clone, Copy)]
-pub(crate) struct Manner<'a> {
-    command: &'static str,
+/// How the texts of `compare` are written: by which forms, in a form and a language, and with the digests of its inputs.
+#[derive(Drop)]
+pub(crate) struct Manner<'a, F> {
+    pub(crate) forms: &'a F,
     pub(crate) style: Style,
-    inputs: &'a [DigestedInput],
+    pub(crate) inputs: &'a [DigestedInput],
 }
 
-impl<'a> Manner<'a> {
-    pub(crate) fn new(
-        command: &'static str,
-        style: Style,
-        inputs: &'a [DigestedInput],
-    ) -> Manner<'a> {
-        Manner {
-            command,
-            style,
-            inputs,
-        }
-    }
-
-    /// The text of an answer.
-    pub(crate) fn text(self, alloc: Global, answer: &Answer) -> Result<Vec<u8>, NoMemory> {
-        text_of(alloc, self.command, self.style, answer, self.inputs, None)
-    }
-
-    /// The text that refuses an input of these bytes by a line, with what was explained, if there was memory for that.
-    pub(crate) fn refusal(
-        self,
+impl<F: Forms> Manner<'_, F> {
+    /// An answer with its text, in JSON with what is told of a refusal, and with what is said of it.
+    pub(crate) fn answered(
+        &self,
         alloc: Global,
-        line: Vec<u8>,
-        explained: &Result<Explained, NoMemory>,
-        bytes: &[u8],
-    ) -> Result<Vec<u8>, NoMemory> {
-        let answer = Answer::refused(alloc, line);
-        let told = match explained {
-            Ok(explained) => Some(told_of(explained, bytes)),
-            Err(_) => None,
-        };
-        text_of(alloc, self.command, self.style, &answer, self.inputs, told)
+        answer: &Answer,
+        told: Option<Told<'_>>,
+        said: Vec<u8>,
+    ) -> Result<Answered, NoMemory>
+        ensures status { IfOk result (λ a. a.status ≡ answer.now.status) }
+        ensures written { IfOk result (λ a. IsWritten (F.is_text self.now.forms.now) (codes "compare") self.now.style (digests self.now.inputs.now) answer.now a.text.items) }
+        ensures said { IfOk result (λ a. a.said ≡ said) }
+    {
+        match text_by(
+            self.forms,
+            alloc,
+            "compare",
+            self.style,
+            answer,
+            self.inputs,
+            told,
+        ) {
+            Ok(text) => Ok(Answered {
+                status: answer.status,
+                text,
+                said,
+                made: Vec::new(alloc),
+            }),
+            Err(NoMemory) => Err(NoMemory),
+        }
     }
 }
 
@@ -96,26 +95,6 @@ fn push_returns(inputs: &mut Vec<DigestedInput>, returns: &NamedReturns<'_>) -> 
         inputs,
         digested_returns(read.text.as_slice(), refusal_of(&read.verdict)),
     )
-}
-
-/// The digests of a rulebook, if one is given, and of returns, as JSON has them.
-pub(crate) fn inputs_of(
-    alloc: Global,
-    book: Option<&NamedBook<'_>>,
-    returns: &NamedReturns<'_>,
-    style: Style,
-) -> Result<Vec<DigestedInput>, NoMemory>
-    ensures { IfOk result (λ inputs. digests inputs.items ≡ sums_digests style.shape (option_map (λ b. b.now) book.entry) returns.now) }
-{
-    let mut inputs = Vec::new(alloc);
-    if !style.is_json() {
-        return Ok(inputs);
-    }
-    if let Some(book) = book {
-        push_book(&mut inputs, book, None)?;
-    }
-    push_returns(&mut inputs, returns)?;
-    Ok(inputs)
 }
 
 /// The digests of rulebooks, each with the word that names it, and of returns, as JSON has them.

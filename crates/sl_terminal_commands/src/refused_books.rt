@@ -4,7 +4,7 @@ ghost use Rattle.std.specs.Prelude.{◌≡◌, All, Contains, IfOk, IfSome, None
 ghost use Rattle.sl_count_inputs.specs.declared.status.Input.TheVariants as input;
 ghost use Rattle.sl_count_inputs.specs.declared.verdict.Verdict.TheVariants.{Refused};
 ghost use Rattle.sl_explain_calls.specs.Codes.{book_code, subject, subject_of};
-ghost use Rattle.sl_terminal_commands.specs.inner.Verdicts.{IsGood};
+ghost use Rattle.sl_terminal_commands.specs.inner.Comparing.{IsGood};
 
 use crate::sums::NamedBook;
 use crate::varied::add_method;

@@ -1,31 +1,38 @@
-//! The commands that report, over files: each input is read and judged once, and each rulebook is run once.
+//! What the commands that report answer, over files: each input is read and judged once, and each rulebook is run once.
 
-ghost use Rattle.std.specs.Prelude.{◌≡◌, ◌<◌, ◌^◌, ◌⊎◌, ◌||◌, Bool, Err, IfErr, IfOk, None, false, is_err, option_map, true};
+ghost use Rattle.std.specs.Borrow.{Bor};
+ghost use Rattle.std.specs.Prelude.{◌≡◌, ◌<◌, ◌^◌, ◌||◌, [], Bool, IfOk, List, None, Option, false, is_err, option_map};
 ghost use Rattle.sl_count_calls.specs.Fitting.{FitsJudged};
 ghost use Rattle.sl_count_calls.specs.Judged.{IsJudged};
+ghost use Rattle.sl_explain_calls.specs.Codes.{subject_of};
 ghost use Rattle.sl_law_meaning.specs.declared.count.Records.TheVariants.{Kept};
 ghost use Rattle.sl_count_inputs.specs.Reading.{ForKnown};
 ghost use Rattle.sl_count_inputs.specs.declared.status.Status.TheVariants as status;
 ghost use Rattle.sl_terminal_outside.specs.Inputs.{named_input};
-ghost use Rattle.sl_report_commands.specs.Statuses.{is_stopped, judged_status};
+ghost use Rattle.sl_report_commands.specs.Written.{shown_subject};
+ghost use Rattle.sl_report_parties.specs.declared.earlier.EarlierParty.{EarlierParty as Party};
+ghost use Rattle.sl_report_tables.specs.Reports.{beside};
 ghost use Rattle.sl_terminal_commands.specs.Beside.{AreNames};
 ghost use Rattle.sl_terminal_commands.specs.Digested.{word_bytes};
-ghost use Rattle.sl_terminal_commands.specs.Ends.{Ends, IsEarly};
-ghost use Rattle.sl_terminal_commands.specs.Requests.{IsReportEnd};
-ghost use Rattle.sl_terminal_commands.specs.Said.{OnlyWarns, Says, judged_said};
-ghost use Rattle.sl_terminal_commands.specs.Tellings.{IsOfWhat, warns_of};
-ghost use Rattle.sl_terminal_commands.specs.inner.Reports.{AreBesideIn, IsEndOfJudged, IsOfJudged, IsOfReportIn, IsReadFrom, IsReportIn, IsShownBy, SaysBy};
+ghost use Rattle.sl_terminal_commands.specs.Requests.{IsReported, shape_of, style_of};
+ghost use Rattle.sl_terminal_commands.specs.Said.{AreWarnings, IsSaid, report_said};
+ghost use Rattle.sl_terminal_commands.specs.Tellings.{IsOfReport, IsOfWhat, warns_of};
+ghost use Rattle.sl_terminal_commands.specs.inner.Reports.{AreBesideIn, IsReadFrom, IsReportAnswer, IsReportBeside, IsReportIn};
 
+use crate::answered::{Answered, counted, files_of, reported, told_text, warnings_text};
+use crate::commands::Commands;
 use crate::failure::Failure;
-use crate::terminal::Terminal;
-use sl_count_calls::{Judged, Read, Records, judge_read};
-use sl_count_inputs::{BookText, Bytes, Input, Sink, Status, read_all};
+use sl_base_quotients::NoMemory;
+use sl_count_calls::{Read, Records, judge_read};
+use sl_count_inputs::{BookText, Bytes, Input, read_all};
+use sl_explain_texts::Language;
 use sl_report_commands::{
-    Answer, EarlierParty, FullNames, MAX_BEFORE_BYTES, MAX_NAMES_BYTES, Shape, Show, Style, Texts,
-    answer_judged, bytes_of, earlier_in, judged_text, names_in,
+    Answer, EarlierParty, Forms, FullNames, MAX_BEFORE_BYTES, MAX_NAMES_BYTES, Shape, Show, Style,
+    Texts, Written, bytes_of, earlier_in, names_in, show_judged,
 };
 use sl_terminal_outside::{Outside, open, open_book};
 use sl_terminal_words::{Report, ReportForm};
+use std::alloc::Global;
 
 // How a report is written: with the names of a file and beside the earlier seat table of one, where they are given, in a form and in a language.
 #[derive(Clone, Copy)]
@@ -35,7 +42,16 @@ pub(crate) struct Writing<'a> {
     pub(crate) style: Style,
 }
 
-fn shape_of(form: ReportForm) -> Shape {
+// The paths of a rulebook and of returns.
+#[derive(Clone, Copy)]
+pub(crate) struct Paths<'a> {
+    pub(crate) book: &'a str,
+    pub(crate) returns: &'a str,
+}
+
+fn shape_of(form: ReportForm) -> Shape
+    ensures { result ≡ shape_of form }
+{
     match form {
         ReportForm::Text => Shape::Text,
         ReportForm::Markdown => Shape::Markdown,
@@ -55,32 +71,123 @@ pub(crate) fn book_bytes<'a>(word: &'a str, read: &'a [u8]) -> &'a [u8]
     }
 }
 
-// The bytes of a rulebook and of returns that were read.
-fn texts_of<'a>(word: &'a str, read: &'a Read<'_>) -> Texts<'a> {
-    Texts {
-        book: book_bytes(word, read.book.as_slice()),
-        returns: read.returns.as_slice(),
-    }
-}
-
 // The names and the earlier table, or the answer that refuses the first of them that is refused.
 fn first_refusal<'a>(
     names: Result<FullNames, Answer>,
     earlier: Result<Option<Vec<EarlierParty<'a>>>, Answer>,
 ) -> (Result<FullNames, Answer>, Option<Vec<EarlierParty<'a>>>)
     ensures which { is_err result.0 ≡ (is_err names || is_err earlier.entry) }
-    ensures refused { IfErr result.0 (λ a. (names ≡ Err a) ⊎ (earlier.entry ≡ Err a)) }
+    ensures earlier { IfOk earlier.entry (λ found. result.1 ≡ found) }
 {
-    match names {
-        Err(refusal) => (Err(refusal), None),
-        Ok(names) => match earlier {
-            Ok(earlier) => (Ok(names), earlier),
-            Err(refusal) => (Err(refusal), None),
+    match earlier {
+        Ok(earlier) => (names, earlier),
+        Err(refusal) => match names {
+            Ok(_) => (Err(refusal), None),
+            Err(first) => (Err(first), None),
         },
     }
 }
 
-impl<O: Outside, W: Sink, E: Sink> Terminal<O, W, E> {
+// What is said of a report of a count that was read: why there is no table, what is likely a mistake, or nothing where names are refused.
+fn said_of_report(
+    alloc: Global,
+    language: Language,
+    is_refused: bool,
+    written: &Written,
+    read: &Read<'_>,
+    paths: Paths<'_>,
+) -> Result<Vec<u8>, NoMemory>
+    requires { option_map subject_of written.now.told ≡ shown_subject is_refused read.now.judged }
+    ensures { IfOk result (λ text. IsSaid language (report_said is_refused read.now.judged) text.items) }
+{
+    match counted(&read.judged) {
+        Some(counting) if !is_refused => {
+            let book = Some(&counting.book.book);
+            warnings_text(alloc, language, book, &counting.returns)
+        }
+        _ => {
+            let files = files_of(paths.book, paths.returns, read);
+            told_text(alloc, language, &files, &written.told)
+        }
+    }
+}
+
+// Whether names are refused.
+fn is_refusal(names: &Result<FullNames, Answer>) -> bool
+    ensures { result ≡ is_err names.now }
+{
+    match names {
+        Ok(_) => false,
+        Err(_) => true,
+    }
+}
+
+// What a report of a count that was read answers.
+fn report_with<F: Forms>(
+    forms: &F,
+    alloc: Global,
+    show: Show<'_>,
+    read: &Read<'_>,
+    names: &Result<FullNames, Answer>,
+    paths: Paths<'_>,
+    style: Style,
+) -> Result<Answered, NoMemory>
+    requires fits { FitsJudged Kept read.now.judged }
+    ensures { IfOk result (IsReportAnswer (F.is_text forms.now) show.entry (is_err names.now) read.now.judged style) }
+{
+    let texts = Texts {
+        book: book_bytes(paths.book, read.book.as_slice()),
+        returns: read.returns.as_slice(),
+    };
+    let written = show_judged(forms, alloc, show, &read.judged, names, texts, style)?;
+    match said_of_report(
+        alloc,
+        style.language,
+        is_refusal(names),
+        &written,
+        read,
+        paths,
+    ) {
+        Ok(said) => Ok(reported(alloc, written, said)),
+        Err(NoMemory) => Err(NoMemory),
+    }
+}
+
+// The parties of an earlier table, if one was read.
+fn slice_of<'a, 'b>(earlier: &'b Option<Vec<EarlierParty<'a>>>) -> Option<&'b [EarlierParty<'a>]>
+    ensures { option_map (λ all. all.now) result ≡ option_map (λ all. all.items) earlier.now }
+{
+    match earlier {
+        Some(found) => Some(found.as_slice()),
+        None => None,
+    }
+}
+
+// What a report of a count that was read answers, beside an earlier table.
+fn report_beside<F: Forms>(
+    forms: &F,
+    alloc: Global,
+    show: Show<'_>,
+    read: &Read<'_>,
+    names: Result<FullNames, Answer>,
+    table: &Option<Bytes>,
+    paths: Paths<'_>,
+    style: Style,
+) -> Result<Answered, NoMemory>
+    requires fits { FitsJudged Kept read.now.judged }
+    ensures { IfOk result (IsReportBeside (F.is_text forms.now) show.entry (is_err names) table.now read.now.judged style) }
+{
+    match earlier_in(alloc, table) {
+        Ok(earlier) => {
+            let (names, earlier) = first_refusal(names, earlier);
+            let show = show.beside(slice_of(&earlier));
+            report_with(forms, alloc, show, read, &names, paths, style)
+        }
+        Err(NoMemory) => Err(NoMemory),
+    }
+}
+
+impl<O: Outside> Commands<'_, O> {
     // The bytes of a file in addition to the inputs of a count, if one is given.
     fn read_beside<'a>(
         &self,
@@ -89,13 +196,12 @@ impl<O: Outside, W: Sink, E: Sink> Terminal<O, W, E> {
         limit: usize,
     ) -> Result<Option<Bytes>, Failure<'a, O::Reason>>
         requires { limit < 2 ^ 32 }
-        ensures read { IfOk result (λ read. IsReadFrom (O.bytes self.now.outside) (option_map (λ path. path.now) path.entry) limit read) }
-        ensures early { IfErr result IsEarly }
+        ensures read { IfOk result (λ read. IsReadFrom (O.bytes self.now.outside.now) (option_map (λ path. path.now) path.entry) limit read) }
     {
         let Some(path) = path else {
             return Ok(None);
         };
-        let mut file = open(&self.outside, path, input)?;
+        let mut file = open(self.outside, path, input)?;
         Ok(Some(read_all(self.alloc, &mut file, input, limit)?))
     }
 
@@ -104,9 +210,7 @@ impl<O: Outside, W: Sink, E: Sink> Terminal<O, W, E> {
         &self,
         path: Option<&'a str>,
     ) -> Result<Result<FullNames, Answer>, Failure<'a, O::Reason>>
-        ensures names { IfOk result (λ full. AreNames (O.bytes self.now.outside) (option_map (λ path. path.now) path.entry) (is_err full)) }
-        ensures refused { IfOk result (λ full. IfErr full (λ a. a.status ≡ status.Refused)) }
-        ensures early { IfErr result IsEarly }
+        ensures names { IfOk result (λ full. AreNames (O.bytes self.now.outside.now) (option_map (λ path. path.now) path.entry) (is_err full)) }
     {
         let read = self.read_beside(path, Input::Names, MAX_NAMES_BYTES)?;
         Ok(names_in(self.alloc, &read)?)
@@ -118,139 +222,81 @@ impl<O: Outside, W: Sink, E: Sink> Terminal<O, W, E> {
         book: &'a str,
         returns: &'a str,
     ) -> Result<Read<'a>, Failure<'a, O::Reason>>
-        ensures judged { IfOk result (λ read. ForKnown (named_input (O.bytes self.now.outside) book.now) (O.bytes self.now.outside returns.now) (λ input bytes.
+        ensures judged { IfOk result (λ read. ForKnown (named_input (O.bytes self.now.outside.now) book.now) (O.bytes self.now.outside.now returns.now) (λ input bytes.
             IsJudged Kept None input bytes read.judged)) }
         ensures fits { IfOk result (λ read. FitsJudged Kept read.judged) }
-        ensures early { IfErr result IsEarly }
     {
-        let mut source = open_book(&self.outside, book)?;
-        let mut file = open(&self.outside, returns, Input::Returns)?;
+        let mut source = open_book(self.outside, book)?;
+        let mut file = open(self.outside, returns, Input::Returns)?;
         Ok(judge_read(Records::Kept, self.alloc, &mut source, None, &mut file)?)
     }
 
-    // The answer that shows what inputs come to, or that refuses the names or the earlier table.
-    fn answer_to<'a>(
+    // What a report of a count that was read answers, with what is read beside it.
+    fn report_read<'a, F: Forms>(
         &self,
+        forms: &F,
         show: Show<'_>,
-        judged: &Judged<'_>,
+        read: &Read<'_>,
+        paths: Paths<'a>,
         writing: Writing<'a>,
-    ) -> Result<Result<Answer, Answer>, Failure<'a, O::Reason>>
-        requires fits { FitsJudged Kept judged.now }
-        ensures which { IfOk result (λ answer. (is_refused : Bool) × AreBesideIn (O.bytes self.now.outside) writing.entry is_refused × (is_err answer ≡ is_stopped is_refused judged.now)) }
-        ensures shown { IfOk result (λ answer. IfOk answer (λ a. a.status ≡ judged_status judged.now)) }
-        ensures refused { IfOk result (λ answer. IfErr answer (λ a. a.status ≡ status.Refused)) }
-        ensures early { IfErr result IsEarly }
+    ) -> Result<Answered, Failure<'a, O::Reason>>
+        requires fits { FitsJudged Kept read.now.judged }
+        ensures { IfOk result (λ a. (is_refused : Bool) × (found : Option (Bor (List Party)))
+            × AreBesideIn (O.bytes self.now.outside.now) writing.entry is_refused found
+            × IsReportAnswer (F.is_text forms.now) (beside found show.entry) is_refused read.now.judged writing.entry.style a) }
     {
         let names = self.full_names(writing.names)?;
-        let table = self.read_beside(writing.before, Input::Before, MAX_BEFORE_BYTES)?;
-        let (names, earlier) = first_refusal(names, earlier_in(self.alloc, &table)?);
-        let show = show.beside(earlier.as_deref());
-        let language = writing.style.language;
-        Ok(answer_judged(self.alloc, show, judged, &names, language)?)
-    }
-
-    // Writes the text that reports of a rulebook and returns, and tells why they yield no table, if they don't; or writes the refusal of the names.
-    fn finish_report<'a>(
-        &mut self,
-        read: &Read<'_>,
-        answer: &Result<Answer, Answer>,
-        text: &[u8],
-        book: &'a str,
-        returns: &'a str,
-    ) -> Result<Status, Failure<'a, O::Reason>>
-        ensures ends { Ends (λ ends _. IsShownBy answer.now ends) (W.contents self.old.out) (W.contents self.new.out) result }
-        ensures quiet { IfOk result (λ _. self.old.is_quiet ≡ true → self.new.err ≡ self.old.err) }
-        ensures done { IfOk result (λ ends. ends ≡ status.Done → OnlyWarns E.contents self.old self.new) }
-        ensures told { IfOk result (λ _. SaysBy answer.now (judged_said read.now.judged) (Says E.contents self.old self.new)) }
-    {
-        match answer {
-            Ok(answer) => {
-                let status = self.write_text(answer.status, text)?;
-                self.tell_read(status, book, returns, read);
-                Ok(status)
-            }
-            Err(refusal) => self.write_text(refusal.status, text),
-        }
-    }
-
-    // Writes what an answer shows or refuses, and tells why a rulebook and returns yield no table, if they don't.
-    #[tactic(auto, using(crate::proofs::Deliveries::ends_early))]
-    fn write_report<'a>(
-        &mut self,
-        show: Show<'_>,
-        read: &Read<'_>,
-        answer: &Result<Answer, Answer>,
-        book: &'a str,
-        returns: &'a str,
-        style: Style,
-    ) -> Result<Status, Failure<'a, O::Reason>>
-        ensures ends { Ends (λ ends _. IsShownBy answer.now ends) (W.contents self.old.out) (W.contents self.new.out) result }
-        ensures quiet { IfOk result (λ _. self.old.is_quiet ≡ true → self.new.err ≡ self.old.err) }
-        ensures done { IfOk result (λ ends. ends ≡ status.Done → OnlyWarns E.contents self.old self.new) }
-        ensures told { IfOk result (λ _. SaysBy answer.now (judged_said read.now.judged) (Says E.contents self.old self.new)) }
-    {
-        let texts = texts_of(book, read);
-        let text = judged_text(self.alloc, show, answer, &read.judged, texts, style)?;
-        self.finish_report(read, answer, text.as_slice(), book, returns)
-    }
-
-    // Reports what a rulebook and returns come to that were read.
-    #[tactic(auto, using(crate::proofs::Deliveries::ends_early))]
-    fn report_read<'a>(
-        &mut self,
-        show: Show<'_>,
-        read: &Read<'_>,
-        book: &'a str,
-        returns: &'a str,
-        writing: Writing<'a>,
-    ) -> Result<Status, Failure<'a, O::Reason>>
-        requires fits { FitsJudged Kept read.now.judged }
-        ensures ends { Ends (λ ends _. IsEndOfJudged (O.bytes self.old.outside) writing.entry read.now.judged ends)
-            (W.contents self.old.out) (W.contents self.new.out) result }
-        ensures quiet { IfOk result (λ _. self.old.is_quiet ≡ true → self.new.err ≡ self.old.err) }
-        ensures done { IfOk result (λ ends. ends ≡ status.Done → OnlyWarns E.contents self.old self.new) }
-        ensures told { IfOk result (λ _. IsOfJudged (O.bytes self.old.outside) writing.entry read.now.judged (Says E.contents self.old self.new)) }
-    {
-        let answer = self.answer_to(show, &read.judged, writing)?;
-        self.write_report(show, read, &answer, book, returns, writing.style)
-    }
-
-    // Counts by a rulebook and reports.
-    fn report_count<'a>(
-        &mut self,
-        show: Show<'_>,
-        book: &'a str,
-        returns: &'a str,
-        writing: Writing<'a>,
-    ) -> Result<Status, Failure<'a, O::Reason>>
-        ensures ends { Ends (λ ends _. IsReportIn (O.bytes self.old.outside) book.now returns.now writing.entry ends)
-            (W.contents self.old.out) (W.contents self.new.out) result }
-        ensures quiet { IfOk result (λ _. self.old.is_quiet ≡ true → self.new.err ≡ self.old.err) }
-        ensures done { IfOk result (λ ends. ends ≡ status.Done → OnlyWarns E.contents self.old self.new) }
-        ensures told { IfOk result (λ _. IsOfReportIn (O.bytes self.old.outside) book.now returns.now writing.entry (Says E.contents self.old self.new)) }
-    {
-        match self.judged_at(book, returns) {
-            Ok(read) => {
-                let ended = self.report_read(show, &read, book, returns, writing);
-                drop(read);
-                ended
+        match self.read_beside(writing.before, Input::Before, MAX_BEFORE_BYTES) {
+            Ok(table) => {
+                let style = writing.style;
+                let answered = report_beside(
+                    forms, self.alloc, show, read, names, &table, paths, style,
+                );
+                drop(table);
+                Ok(answered?)
             }
             Err(failure) => Err(failure),
         }
     }
 
-    /// Writes a report to standard output.
-    pub(crate) fn report<'a>(
-        &mut self,
+    // What a report of a rulebook on returns answers.
+    fn report_count<'a, F: Forms>(
+        &self,
+        forms: &F,
+        show: Show<'_>,
+        paths: Paths<'a>,
+        writing: Writing<'a>,
+    ) -> Result<Answered, Failure<'a, O::Reason>>
+        ensures answer { IfOk result (λ a. (is_refused : Bool) × (found : Option (Bor (List Party)))
+            × AreBesideIn (O.bytes self.now.outside.now) writing.entry is_refused found
+            × IsReportIn (F.is_text forms.now) (O.bytes self.now.outside.now) (beside found show.entry) is_refused paths.entry writing.entry.style a) }
+        ensures said { IfOk result (λ a. IsOfReport (O.bytes self.now.outside.now) paths.entry.book.now paths.entry.returns.now (option_map (λ path. path.now) writing.entry.names)
+            (option_map (λ path. path.now) writing.entry.before) (λ s. IsSaid writing.entry.style.language s a.said.items)) }
+        ensures done { IfOk result (λ a. a.status ≡ status.Done → AreWarnings writing.entry.style.language a.said.items) }
+    {
+        match self.judged_at(paths.book, paths.returns) {
+            Ok(read) => {
+                let answered = self.report_read(forms, show, &read, paths, writing);
+                drop(read);
+                answered
+            }
+            Err(failure) => Err(failure),
+        }
+    }
+
+    /// What a report answers.
+    pub(crate) fn report<'a, F: Forms>(
+        &self,
+        forms: &F,
         what: &Report<'a>,
         form: ReportForm,
         names: Option<&'a str>,
-    ) -> Result<Status, Failure<'a, O::Reason>>
-        ensures ends { Ends (λ ends _. IsReportEnd (O.bytes self.old.outside) what.now (option_map (λ path. path.now) names.entry) ends) (W.contents self.old.out) (W.contents self.new.out) result }
-        ensures quiet { IfOk result (λ _. self.old.is_quiet ≡ true → self.new.err ≡ self.old.err) }
-        ensures done { IfOk result (λ ends. ends ≡ status.Done → OnlyWarns E.contents self.old self.new) }
-        ensures still { warns_of what.now ≡ false → IfOk result (λ ends. ends ≡ status.Done → self.new.err ≡ self.old.err) }
-        ensures told { IfOk result (λ _. IsOfWhat (O.bytes self.old.outside) what.now (option_map (λ path. path.now) names.entry) (Says E.contents self.old self.new)) }
+    ) -> Result<Answered, Failure<'a, O::Reason>>
+        ensures output { IfOk result (λ a. IsReported (F.is_text forms.now) (O.bytes self.now.outside.now) what.now (option_map (λ path. path.now) names.entry)
+            (style_of form self.now.language) a.status a.text.items (λ s. IsSaid self.now.language s a.said.items)) }
+        ensures said { IfOk result (λ a. IsOfWhat (O.bytes self.now.outside.now) what.now (option_map (λ path. path.now) names.entry) (λ s. IsSaid self.now.language s a.said.items)) }
+        ensures done { IfOk result (λ a. a.status ≡ status.Done → AreWarnings self.now.language a.said.items) }
+        ensures still { warns_of what.now ≡ false → IfOk result (λ a. a.status ≡ status.Done → a.said.items ≡ []) }
     {
         let writing = Writing {
             names,
@@ -262,30 +308,44 @@ impl<O: Outside, W: Sink, E: Sink> Terminal<O, W, E> {
         };
         match what {
             Report::Count { book, returns } => {
-                self.report_count(Show::Report, *book, *returns, writing)
+                let paths = Paths {
+                    book: *book,
+                    returns: *returns,
+                };
+                self.report_count(forms, Show::Report, paths, writing)
             }
             Report::Short {
                 book,
                 returns,
                 before,
             } => {
+                let paths = Paths {
+                    book: *book,
+                    returns: *returns,
+                };
                 let writing = Writing {
                     before: *before,
                     ..writing
                 };
-                self.report_count(Show::Short(None), *book, *returns, writing)
+                self.report_count(forms, Show::Short(None), paths, writing)
             }
             Report::Stages { book, returns } => {
-                self.report_count(Show::Stages, *book, *returns, writing)
+                let paths = Paths {
+                    book: *book,
+                    returns: *returns,
+                };
+                self.report_count(forms, Show::Stages, paths, writing)
             }
-            Report::Totals { returns, book } => self.report_totals(*returns, *book, writing),
+            Report::Totals { returns, book } => {
+                self.report_totals(forms, *returns, *book, writing)
+            }
             Report::Compare {
                 returns,
                 books,
                 methods,
             } => {
                 let methods = methods.as_slice();
-                self.report_comparison(*returns, books.as_slice(), methods, writing)
+                self.report_comparison(forms, *returns, books.as_slice(), methods, writing)
             }
         }
     }

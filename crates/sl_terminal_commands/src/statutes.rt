@@ -1,7 +1,7 @@
 //! The statutes of the library, as rulebooks that words name.
 
 ghost use Rattle.std.specs.Prelude.{◌≡◌, ◌∷◌, All, IfOk, List, map, string_bytes, ℕ};
-ghost use Rattle.sl_terminal_commands.specs.Sums.{library_words};
+ghost use Rattle.sl_terminal_commands.specs.Comparisons.{library_words};
 ghost use Rattle.sl_terminal_commands.specs.inner.Statutes.{IsJudgedStatute};
 
 use crate::sums::NamedBook;

@@ -1,31 +1,26 @@
-//! Rulebooks and returns that are read, and the command that reports the sums of returns. Each input is read and judged once.
+//! Rulebooks and returns that are read, and what the command answers that reports the sums of returns. Each input is read and judged once.
 
 ghost use Rattle.std.specs.Option.{option_map};
-ghost use Rattle.std.specs.Prelude.{◌≡◌, All, IfErr, IfOk, None, is_err, map};
-ghost use Rattle.sl_explain_calls.specs.Codes.{book_code, election_code, subject};
+ghost use Rattle.std.specs.Prelude.{◌≡◌, [], All, Bool, IfOk, is_err, map};
 ghost use Rattle.sl_count_inputs.specs.Judging.{election_verdict, tree_verdict};
-ghost use Rattle.sl_count_inputs.specs.declared.status.Input.TheVariants as input;
 ghost use Rattle.sl_count_inputs.specs.declared.status.Status.TheVariants as status;
-ghost use Rattle.sl_count_inputs.specs.declared.verdict.Verdict.TheVariants.{Refused};
-ghost use Rattle.sl_terminal_commands.specs.Ends.{Ends, IsEarly, IsSilent};
-ghost use Rattle.sl_terminal_commands.specs.Frames.{TellsNothing};
-ghost use Rattle.sl_terminal_commands.specs.Sums.{AreJudged, IsOfSums, IsSumming, IsVerdictOn, given_word, named_status};
-ghost use Rattle.sl_terminal_commands.specs.Said.{Says, fault};
-ghost use Rattle.sl_terminal_commands.specs.inner.Verdicts.{EndsWith, IsEndBy, IsEndOn, IsOfBoth, IsOfElection};
+ghost use Rattle.sl_terminal_commands.specs.Beside.{AreNames};
+ghost use Rattle.sl_terminal_commands.specs.Requests.{IsTotalsOf};
+ghost use Rattle.sl_terminal_commands.specs.Said.{IsSaid, said_of};
+ghost use Rattle.sl_explain_calls.specs.Codes.{subject_of};
+ghost use Rattle.sl_terminal_commands.specs.Sums.{AreJudged, IsOfTotals};
+ghost use Rattle.sl_terminal_commands.specs.inner.Comparing.{AreRead, IsReadBook};
+ghost use Rattle.sl_terminal_commands.specs.inner.Totals.{IsTotalsAnswer, IsTotalsOn};
 
+use crate::answered::{Answered, ReadFile, reported, told_text};
+use crate::commands::Commands;
 use crate::failure::Failure;
-use crate::manner::{Manner, inputs_of};
-use crate::refused_books::{FirstRefused, explain_refused};
-use crate::reports::Writing;
-use crate::telling::ReadFile;
-use crate::terminal::Terminal;
+use crate::reports::{Writing, book_bytes};
 use sl_base_quotients::{Method, NoMemory};
-use sl_count_inputs::{
-    Input, ReadBook, ReadReturns, RefusedElection, Sink, Status, Verdict, read_book, read_election,
+use sl_count_inputs::{Input, ReadBook, ReadReturns, read_book, read_election};
+use sl_report_commands::{
+    Answer, BookVerdict, Forms, FullNames, Style, Texts, Written, total_judged,
 };
-use sl_explain_calls::explain_election;
-use sl_report_commands::{Answer, FullNames, Language, totals_answer};
-use sl_stages::{CheckedBook, Returns};
 use sl_terminal_outside::{Outside, open, open_book};
 use std::alloc::Global;
 
@@ -44,32 +39,92 @@ pub(crate) struct NamedReturns<'a> {
     pub(crate) read: ReadReturns,
 }
 
-// The sums of good returns, after a good rulebook or none, with full names; or the answer that refuses these.
-fn sums_of(
-    alloc: Global,
-    book: Option<&CheckedBook>,
-    election: &Returns,
-    names: Result<FullNames, Answer>,
-    language: Language,
-) -> Result<Answer, NoMemory>
-    ensures { IfOk result (λ a. a.status ≡ named_status (is_err names)) }
+// What a rulebook comes to, if one is given.
+fn verdict_of<'b>(book: Option<&'b NamedBook<'_>>) -> Option<&'b BookVerdict<'b>>
+    ensures { option_map (λ v. v.now) result ≡ option_map (λ b. b.now.read.verdict) book.entry }
 {
-    match names {
-        Ok(full) => {
-            let book = book.map(|checked| &checked.book);
-            totals_answer(alloc, book, election, &full, language)
-        }
-        Err(refusal) => Ok(Answer::refused(alloc, refusal.line)),
+    match book {
+        Some(book) => Some(&book.read.verdict),
+        None => None,
     }
 }
 
-impl<O: Outside, W: Sink, E: Sink> Terminal<O, W, E> {
+// The bytes of a rulebook, if one is given, and of returns.
+fn texts_of<'b>(book: Option<&'b NamedBook<'_>>, returns: &'b NamedReturns<'_>) -> Texts<'b> {
+    let returns = returns.read.text.as_slice();
+    match book {
+        Some(book) => Texts {
+            book: book_bytes(book.word, book.read.text.as_slice()),
+            returns,
+        },
+        None => Texts { book: b"", returns },
+    }
+}
+
+// The rulebook as a file, if one is given.
+fn file_of<'b>(book: Option<&'b NamedBook<'_>>) -> ReadFile<'b> {
+    match book {
+        Some(book) => ReadFile {
+            input: Input::Book,
+            path: book.word,
+            bytes: book.read.text.as_slice(),
+        },
+        None => ReadFile {
+            input: Input::Book,
+            path: "",
+            bytes: b"",
+        },
+    }
+}
+
+// Why there are no totals of returns that were read, by a rulebook if one is given, if there are none.
+fn said_of_totals(
+    alloc: Global,
+    written: &Written,
+    book: Option<&NamedBook<'_>>,
+    returns: &NamedReturns<'_>,
+    style: Style,
+) -> Result<Vec<u8>, NoMemory>
+    ensures { IfOk result (λ text. IsSaid style.language (said_of (option_map subject_of written.now.told)) text.items) }
+{
+    let files = [
+        file_of(book),
+        ReadFile {
+            input: Input::Returns,
+            path: returns.path,
+            bytes: returns.read.text.as_slice(),
+        },
+    ];
+    told_text(alloc, style.language, &files, &written.told)
+}
+
+// What the totals of returns that were read answer, by a rulebook if one is given, with full names.
+fn totals_with<F: Forms>(
+    forms: &F,
+    alloc: Global,
+    book: Option<&NamedBook<'_>>,
+    returns: &NamedReturns<'_>,
+    names: &Result<FullNames, Answer>,
+    style: Style,
+) -> Result<Answered, NoMemory>
+    ensures { IfOk result (IsTotalsAnswer (F.is_text forms.now) (is_err names.now) (option_map (λ b. b.now.read.verdict) book.entry) returns.now.read.verdict style) }
+{
+    let (verdict, texts) = (verdict_of(book), texts_of(book, returns));
+    let returns_verdict = &returns.read.verdict;
+    let written = total_judged(forms, alloc, verdict, returns_verdict, names, texts, style)?;
+    match said_of_totals(alloc, &written, book, returns, style) {
+        Ok(said) => Ok(reported(alloc, written, said)),
+        Err(NoMemory) => Err(NoMemory),
+    }
+}
+
+impl<O: Outside> Commands<'_, O> {
     // A rulebook: of the library if the word begins with `@`, else of the file at that path.
     pub(crate) fn book_at<'a>(&self, word: &'a str) -> Result<NamedBook<'a>, Failure<'a, O::Reason>>
-        ensures book { IfOk result (λ b. (b.word.now ≡ word.now) × IsVerdictOn (O.bytes self.now.outside) word.now (tree_verdict b.read.verdict)) }
-        ensures early { IfErr result IsEarly }
+        ensures word { IfOk result (λ b. b.word.now ≡ word.now) }
+        ensures book { IfOk result (IsReadBook (O.bytes self.now.outside.now)) }
     {
-        let read = read_book(self.alloc, &mut open_book(&self.outside, word)?)?;
+        let read = read_book(self.alloc, &mut open_book(self.outside, word)?)?;
         Ok(NamedBook {
             word,
             method: None,
@@ -81,9 +136,7 @@ impl<O: Outside, W: Sink, E: Sink> Terminal<O, W, E> {
         &self,
         words: &[&'a str],
     ) -> Result<Vec<NamedBook<'a>>, Failure<'a, O::Reason>>
-        ensures words { IfOk result (λ books. map (λ b. b.word.now) books.items ≡ map (λ word. word.now) words.now) }
-        ensures books { IfOk result (λ books. All (λ b. IsVerdictOn (O.bytes self.now.outside) b.word.now (tree_verdict b.read.verdict)) books.items) }
-        ensures early { IfErr result IsEarly }
+        ensures { IfOk result (λ books. AreRead (O.bytes self.now.outside.now) (map (λ word. word.now) words.now) books.items) }
     {
         let mut books: Vec<NamedBook<'a>> = Vec::new(self.alloc);
         for word in words {
@@ -98,220 +151,73 @@ impl<O: Outside, W: Sink, E: Sink> Terminal<O, W, E> {
         path: &'a str,
     ) -> Result<NamedReturns<'a>, Failure<'a, O::Reason>>
         ensures path { IfOk result (λ r. r.path.now ≡ path.now) }
-        ensures returns { IfOk result (λ r. AreJudged (O.bytes self.now.outside path.now) (election_verdict r.read.verdict)) }
-        ensures early { IfErr result IsEarly }
+        ensures returns { IfOk result (λ r. AreJudged (O.bytes self.now.outside.now path.now) (election_verdict r.read.verdict)) }
     {
-        let mut file = open(&self.outside, path, Input::Returns)?;
+        let mut file = open(self.outside, path, Input::Returns)?;
         let read = read_election(self.alloc, &mut file)?;
         Ok(NamedReturns { path, read })
     }
 
-    // Refuses a rulebook, and tells of those after it that are refused too.
-    #[tactic(auto, using(crate::proofs::Deliveries::ends_early))]
-    pub(crate) fn refuse_book<'a>(
-        &mut self,
-        first: FirstRefused<'_, '_>,
-        manner: Manner<'_>,
-    ) -> Result<Status, Failure<'a, O::Reason>>
-        ensures ends { Ends (λ ends _. ends ≡ status.Refused) (W.contents self.old.out) (W.contents self.new.out) result }
-        ensures silent { IfOk result (λ ends. IsSilent self.old.is_quiet ends → self.new.err ≡ self.old.err) }
-        ensures told { IfOk result (λ _. Says E.contents self.old self.new (fault (subject input.Book (book_code first.entry.refused.now)))) }
-    {
-        let (alloc, bytes) = (self.alloc, first.book.read.text.as_slice());
-        let line = first.refused.why().line(alloc)?;
-        let explained = explain_refused(alloc, self.language, first);
-        let text = manner.refusal(alloc, line, &explained, bytes)?;
-        let status = self.write_text(Status::Refused, text.as_slice())?;
-        let file = ReadFile {
-            input: Input::Book,
-            path: first.book.word,
-            bytes,
-        };
-        self.tell_refusal(status, file, explained);
-        Ok(status)
-    }
-
-    // Refuses returns.
-    #[tactic(auto, using(crate::proofs::Deliveries::ends_early))]
-    pub(crate) fn refuse_returns<'a>(
-        &mut self,
-        returns: &NamedReturns<'_>,
-        refused: &RefusedElection,
-        manner: Manner<'_>,
-    ) -> Result<Status, Failure<'a, O::Reason>>
-        ensures ends { Ends (λ ends _. ends ≡ status.Refused) (W.contents self.old.out) (W.contents self.new.out) result }
-        ensures silent { IfOk result (λ ends. IsSilent self.old.is_quiet ends → self.new.err ≡ self.old.err) }
-        ensures told { IfOk result (λ _. Says E.contents self.old self.new (fault (subject input.Returns (election_code refused.now)))) }
-    {
-        let (alloc, bytes) = (self.alloc, returns.read.text.as_slice());
-        let line = refused.why().line(alloc)?;
-        let explained = explain_election(alloc, self.language, bytes, refused);
-        let text = manner.refusal(alloc, line, &explained, bytes)?;
-        let status = self.write_text(Status::Refused, text.as_slice())?;
-        let file = ReadFile {
-            input: Input::Returns,
-            path: returns.path,
-            bytes,
-        };
-        self.tell_refusal(status, file, explained);
-        Ok(status)
-    }
-
-    // Writes an answer, of which no more is told.
-    #[tactic(auto, using(crate::proofs::Deliveries::ends_early))]
-    pub(crate) fn write_sheets<'a>(
-        &mut self,
-        answer: &Answer,
-        manner: Manner<'_>,
-    ) -> Result<Status, Failure<'a, O::Reason>>
-        ensures ends { Ends (λ ends _. ends ≡ answer.now.status) (W.contents self.old.out) (W.contents self.new.out) result }
-        ensures untold { IfOk result (λ _. TellsNothing self.old self.new) }
-    {
-        let text = manner.text(self.alloc, answer)?;
-        self.write_text(answer.status, text.as_slice())
-    }
-
-    // Writes the sums of good returns, after a good rulebook or none, with full names; or the refusal of these.
-    #[tactic(auto, using(crate::proofs::Deliveries::ends_early))]
-    fn write_sums<'a>(
-        &mut self,
-        book: Option<&CheckedBook>,
-        election: &Returns,
-        names: Result<FullNames, Answer>,
-        manner: Manner<'_>,
-    ) -> Result<Status, Failure<'a, O::Reason>>
-        ensures ends { Ends (λ ends _. ends ≡ named_status (is_err names)) (W.contents self.old.out) (W.contents self.new.out) result }
-        ensures untold { IfOk result (λ _. self.new.err ≡ self.old.err) }
-    {
-        let answer = sums_of(self.alloc, book, election, names, manner.style.language)?;
-        self.write_sheets(&answer, manner)
-    }
-
-    // Writes the sums of returns, after a good rulebook or none, or refuses the returns.
-    fn sum_up<'a>(
-        &mut self,
-        book: Option<&CheckedBook>,
-        returns: &NamedReturns<'_>,
-        names: Result<FullNames, Answer>,
-        manner: Manner<'_>,
-    ) -> Result<Status, Failure<'a, O::Reason>>
-        ensures ends { Ends (λ ends _. IsEndOn (is_err names) returns.now.read.verdict ends) (W.contents self.old.out) (W.contents self.new.out) result }
-        ensures silent { IfOk result (λ ends. IsSilent self.old.is_quiet ends → self.new.err ≡ self.old.err) }
-        ensures told { IfOk result (λ _. IsOfElection returns.now.read.verdict (Says E.contents self.old self.new)) }
-    {
-        match &returns.read.verdict {
-            Verdict::Good(election) => self.write_sums(book, election, names, manner),
-            Verdict::Refused(refused) => self.refuse_returns(returns, refused, manner),
-        }
-    }
-
-    // Adds up returns, by a rulebook that was read.
-    fn sum_up_by<'a>(
-        &mut self,
-        book: &NamedBook<'_>,
-        returns: &NamedReturns<'_>,
-        names: Result<FullNames, Answer>,
-        manner: Manner<'_>,
-    ) -> Result<Status, Failure<'a, O::Reason>>
-        ensures ends { Ends (λ ends _. IsEndBy (is_err names) book.now.read.verdict returns.now.read.verdict ends) (W.contents self.old.out) (W.contents self.new.out) result }
-        ensures silent { IfOk result (λ ends. IsSilent self.old.is_quiet ends → self.new.err ≡ self.old.err) }
-        ensures told { IfOk result (λ _. IsOfBoth book.now.read.verdict returns.now.read.verdict (Says E.contents self.old self.new)) }
-    {
-        match &book.read.verdict {
-            Verdict::Good(good) => self.sum_up(Some(good), returns, names, manner),
-            Verdict::Refused(refused) => {
-                let first = FirstRefused {
-                    book,
-                    refused,
-                    further: &[],
-                };
-                self.refuse_book(first, manner)
-            }
-        }
-    }
-
-    // Adds up returns by a rulebook, both of which were read, with the full names of a file if one is given.
-    #[tactic(auto, using(crate::proofs::Deliveries::ends_early))]
-    fn totals_by<'a>(
-        &mut self,
-        book: &NamedBook<'_>,
+    // What the totals of returns that were read answer, by a rulebook if one is given.
+    fn totals_by<'a, F: Forms>(
+        &self,
+        forms: &F,
+        book: Option<&NamedBook<'_>>,
         returns: &NamedReturns<'_>,
         writing: Writing<'a>,
-    ) -> Result<Status, Failure<'a, O::Reason>>
-        ensures ends { Ends (λ ends _. EndsWith (O.bytes self.old.outside) (option_map (λ path. path.now) writing.entry.names) (λ is. IsEndBy is book.now.read.verdict returns.now.read.verdict ends))
-            (W.contents self.old.out) (W.contents self.new.out) result }
-        ensures silent { IfOk result (λ ends. IsSilent self.old.is_quiet ends → self.new.err ≡ self.old.err) }
-        ensures told { IfOk result (λ _. IsOfBoth book.now.read.verdict returns.now.read.verdict (Says E.contents self.old self.new)) }
+    ) -> Result<Answered, Failure<'a, O::Reason>>
+        ensures { IfOk result (λ a. (is_refused : Bool) × AreNames (O.bytes self.now.outside.now) (option_map (λ path. path.now) writing.entry.names) is_refused
+            × IsTotalsAnswer (F.is_text forms.now) is_refused (option_map (λ b. b.now.read.verdict) book.entry) returns.now.read.verdict writing.entry.style a) }
     {
         let names = self.full_names(writing.names)?;
-        let inputs = inputs_of(self.alloc, Some(book), returns, writing.style)?;
-        let manner = Manner::new("totals", writing.style, inputs.as_slice());
-        self.sum_up_by(book, returns, names, manner)
+        let answered = totals_with(forms, self.alloc, book, returns, &names, writing.style);
+        drop(names);
+        Ok(answered?)
     }
 
-    // The same without a rulebook.
-    #[tactic(auto, using(crate::proofs::Deliveries::ends_early))]
-    fn totals_alone<'a>(
-        &mut self,
-        returns: &NamedReturns<'_>,
-        writing: Writing<'a>,
-    ) -> Result<Status, Failure<'a, O::Reason>>
-        ensures ends { Ends (λ ends _. EndsWith (O.bytes self.old.outside) (option_map (λ path. path.now) writing.entry.names) (λ is. IsEndOn is returns.now.read.verdict ends))
-            (W.contents self.old.out) (W.contents self.new.out) result }
-        ensures silent { IfOk result (λ ends. IsSilent self.old.is_quiet ends → self.new.err ≡ self.old.err) }
-        ensures told { IfOk result (λ _. IsOfElection returns.now.read.verdict (Says E.contents self.old self.new)) }
-    {
-        let names = self.full_names(writing.names)?;
-        let inputs = inputs_of(self.alloc, None, returns, writing.style)?;
-        let manner = Manner::new("totals", writing.style, inputs.as_slice());
-        self.sum_up(None, returns, names, manner)
-    }
-
-    // Adds up returns that were read, with a rulebook if one is given.
-    fn totals_on<'a>(
-        &mut self,
+    // What the totals of returns that were read answer, by the rulebook of a word if one is given.
+    fn totals_on<'a, F: Forms>(
+        &self,
+        forms: &F,
         returns: &NamedReturns<'_>,
         book: Option<&'a str>,
         writing: Writing<'a>,
-    ) -> Result<Status, Failure<'a, O::Reason>>
-        requires judged { AreJudged (O.bytes self.now.outside returns.now.path.now) (election_verdict returns.now.read.verdict) }
-        ensures ends { Ends (λ ends _. IsSumming (O.bytes self.old.outside) returns.now.path.now (given_word (option_map (λ word. word.now) book.entry)) (option_map (λ path. path.now) writing.entry.names) ends)
-            (W.contents self.old.out) (W.contents self.new.out) result }
-        ensures silent { IfOk result (λ ends. IsSilent self.old.is_quiet ends → self.new.err ≡ self.old.err) }
-        ensures told { IfOk result (λ _. IsOfSums (O.bytes self.old.outside) returns.now.path.now (given_word (option_map (λ word. word.now) book.entry))
-            (Says E.contents self.old self.new)) }
+    ) -> Result<Answered, Failure<'a, O::Reason>>
+        ensures { IfOk result (λ a. (is_refused : Bool) × AreNames (O.bytes self.now.outside.now) (option_map (λ path. path.now) writing.entry.names) is_refused
+            × IsTotalsOn (F.is_text forms.now) (O.bytes self.now.outside.now) is_refused (option_map (λ word. word.now) book.entry) returns.now.read.verdict writing.entry.style a) }
     {
         match book {
             Some(word) => match self.book_at(word) {
                 Ok(book) => {
-                    let ended = self.totals_by(&book, returns, writing);
+                    let answered = self.totals_by(forms, Some(&book), returns, writing);
                     drop(book);
-                    ended
+                    answered
                 }
                 Err(failure) => Err(failure),
             },
-            None => self.totals_alone(returns, writing),
+            None => self.totals_by(forms, None, returns, writing),
         }
     }
 
-    /// Adds up returns, with a rulebook if one is given.
-    pub(crate) fn report_totals<'a>(
-        &mut self,
+    /// What the totals of returns answer, with a rulebook if one is given.
+    pub(crate) fn report_totals<'a, F: Forms>(
+        &self,
+        forms: &F,
         returns: &'a str,
         book: Option<&'a str>,
         writing: Writing<'a>,
-    ) -> Result<Status, Failure<'a, O::Reason>>
-        ensures ends { Ends (λ ends _. IsSumming (O.bytes self.old.outside) returns.now (given_word (option_map (λ word. word.now) book.entry)) (option_map (λ path. path.now) writing.entry.names) ends)
-            (W.contents self.old.out) (W.contents self.new.out) result }
-        ensures silent { IfOk result (λ ends. IsSilent self.old.is_quiet ends → self.new.err ≡ self.old.err) }
-        ensures told { IfOk result (λ _. IsOfSums (O.bytes self.old.outside) returns.now (given_word (option_map (λ word. word.now) book.entry))
-            (Says E.contents self.old self.new)) }
+    ) -> Result<Answered, Failure<'a, O::Reason>>
+        ensures output { IfOk result (λ a. IsTotalsOf (F.is_text forms.now) (O.bytes self.now.outside.now) returns.now (option_map (λ word. word.now) book.entry)
+            (option_map (λ path. path.now) writing.entry.names) writing.entry.style a.status a.text.items) }
+        ensures said { IfOk result (λ a. IsOfTotals (O.bytes self.now.outside.now) returns.now (option_map (λ word. word.now) book.entry)
+            (λ s. IsSaid writing.entry.style.language s a.said.items)) }
+        ensures done { IfOk result (λ a. a.status ≡ status.Done → a.said.items ≡ []) }
     {
         match self.returns_at(returns) {
             Ok(read) => {
-                let ended = self.totals_on(&read, book, writing);
+                let answered = self.totals_on(forms, &read, book, writing);
                 drop(read);
-                ended
+                answered
             }
             Err(failure) => Err(failure),
         }

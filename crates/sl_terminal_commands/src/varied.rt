@@ -1,12 +1,10 @@
 //! Rulebooks with other methods than their own, as `compare --method` puts them next to the originals.
 
-ghost use Rattle.std.specs.Prelude.{◌≡◌, ◌≤◌, ◌++◌, All, IfOk, length};
+ghost use Rattle.std.specs.List.{AllZip};
+ghost use Rattle.std.specs.Prelude.{◌≡◌, ◌++◌, IfOk, map, string_bytes};
 ghost use Rattle.sl_explain_calls.specs.Codes.{subject_of};
-ghost use Rattle.sl_count_inputs.specs.Judging.{tree_verdict};
-ghost use Rattle.sl_base_quotients.specs.declared.method.Method.{Method};
-ghost use Rattle.sl_report_commands.specs.Methods.{IsTreeVerdictBy};
-ghost use Rattle.sl_law_meaning.specs.book.Books.{book_of};
-ghost use Rattle.sl_terminal_commands.specs.inner.Verdicts.{IsVariedBy, IsVariedOf};
+ghost use Rattle.sl_terminal_commands.specs.Comparisons.{column_word, methods_written};
+ghost use Rattle.sl_terminal_commands.specs.inner.Comparing.{AreGood, IsVaried, IsVariedOf, pairs};
 
 use crate::reports::book_bytes;
 use crate::sums::NamedBook;
@@ -26,7 +24,7 @@ const OTHER_METHOD: Message = Message {
 
 /// The methods that words name.
 pub(crate) fn methods_of(alloc: Global, words: &[&str]) -> Result<Vec<Method>, NoMemory>
-    ensures { IfOk result (λ methods. length methods.items ≤ length words.now) }
+    ensures { IfOk result (λ methods. methods.items ≡ methods_written (map (λ word. word.now) words.now)) }
 {
     let mut methods = Vec::new(alloc);
     for word in words {
@@ -37,24 +35,20 @@ pub(crate) fn methods_of(alloc: Global, words: &[&str]) -> Result<Vec<Method>, N
     Ok(methods)
 }
 
-// The word of the column of a rulebook: its own, and with another method that of the method after `+`.
-fn column_word(alloc: Global, named: &NamedBook<'_>) -> Result<String, NoMemory> {
-    Ok(match named.method {
-        Some(method) => format!(in alloc; "{}+{}", named.word, method_word(method))?,
-        None => String::from_str(alloc, named.word)?,
-    })
-}
-
-/// The words of the columns of rulebooks.
-pub(crate) fn column_words(
+/// The word of the column of a rulebook: its own, and with another method that of the method after `+`.
+pub(crate) fn column_word(
     alloc: Global,
-    books: &[NamedBook<'_>],
-) -> Result<Vec<String>, NoMemory> {
-    let mut words = Vec::new(alloc);
-    for named in books {
-        words.push(column_word(alloc, named)?)?;
+    word: &str,
+    method: Option<Method>,
+) -> Result<String, NoMemory>
+    ensures { IfOk result (λ shown. string_bytes shown ≡ column_word word.now method) }
+{
+    let mut shown = String::from_str(alloc, word)?;
+    if let Some(method) = method {
+        shown.push_str("+")?;
+        shown.push_str(method_word(method))?;
     }
-    Ok(words)
+    Ok(shown)
 }
 
 // A good rulebook with another method.
@@ -64,7 +58,7 @@ fn varied<'a>(
     book: &CheckedBook,
     method: Method,
 ) -> Result<NamedBook<'a>, NoMemory>
-    ensures { IfOk result (λ v. (asked : Method) × IsTreeVerdictBy asked (book_of book.now.book) (tree_verdict v.read.verdict)) }
+    ensures { IfOk result (IsVaried named.now book.now method) }
 {
     let bytes = book_bytes(named.word, named.read.text.as_slice());
     let text = Vec::from_slice(alloc, bytes)?;
@@ -83,7 +77,7 @@ fn each_varied<'a>(
     book: &CheckedBook,
     methods: &[Method],
 ) -> Result<Vec<NamedBook<'a>>, NoMemory>
-    ensures { IfOk result (λ found. All (IsVariedBy (length methods.now) book.now) found.items) }
+    ensures { IfOk result (λ found. AllZip (IsVaried named.now book.now) methods.now found.items) }
 {
     let mut found = Vec::new(alloc);
     for method in methods {
@@ -92,13 +86,13 @@ fn each_varied<'a>(
     Ok(found)
 }
 
-/// The good ones of some rulebooks with each of these methods.
+/// Rulebooks, if they are good, with each of these methods.
 pub(crate) fn all_varied<'a>(
     alloc: Global,
     books: &[NamedBook<'a>],
     methods: &[Method],
 ) -> Result<Vec<NamedBook<'a>>, NoMemory>
-    ensures { IfOk result (λ all. All (IsVariedOf (length methods.now) books.now) all.items) }
+    ensures { AreGood books.now → IfOk result (λ all. AllZip IsVariedOf (pairs books.now methods.now) all.items) }
 {
     let mut all = Vec::new(alloc);
     for named in books {

@@ -1,6 +1,6 @@
 //! The system outside. Of its files no bytes are known to a proof.
 
-use crate::outside::Outside;
+use crate::outside::{Outside, Writable};
 use sl_count_inputs::{FromRead, ToWrite};
 use std::alloc::{AllocError, Global};
 use std::fs::{File, metadata};
@@ -35,8 +35,6 @@ pub struct Host<'a> {
 impl Outside for Host<'_> {
     type File = FromRead<File>;
 
-    type Made = ToWrite<File>;
-
     type Reason = io::Error;
 
     fn open(&self, path: &str) -> io::Result<FromRead<File>> {
@@ -54,13 +52,17 @@ impl Outside for Host<'_> {
         Some(FromRead::new(File::open(self.rt, path).ok()?))
     }
 
+    fn variable(&self, _alloc: Global, name: &str) -> Option<String> {
+        std::env::var(self.rt, name).ok()
+    }
+}
+
+impl Writable for Host<'_> {
+    type Made = ToWrite<File>;
+
     fn create(&mut self, path: &str) -> io::Result<ToWrite<File>> {
         Ok(ToWrite::new(File::create(self.rt, path)?))
     }
 
     fn close(&mut self, _path: &str, _made: ToWrite<File>) {}
-
-    fn variable(&self, _alloc: Global, name: &str) -> Option<String> {
-        std::env::var(self.rt, name).ok()
-    }
 }

@@ -23,20 +23,9 @@ pub enum Answer {
     NoMemory(Language),
 }
 
-impl Answer {
-    /// Its text.
-    pub fn text(&self) -> &[u8] {
-        match self {
-            Answer::Shown(text) => text.as_slice(),
-            Answer::Refused(text) => text.as_slice(),
-            Answer::NoMemory(language) => NO_MEMORY.in_language(*language).as_bytes(),
-        }
-    }
-
-    /// Whether the text is for standard error.
-    pub fn is_refusal(&self) -> bool {
-        !matches!(self, Answer::Shown(_))
-    }
+/// What is said where memory ran out while words were read.
+pub fn out_of_memory(language: Language) -> &'static str {
+    NO_MEMORY.in_language(language)
 }
 
 // The command of whose help words ask: the one that they begin with, or the one after `help`, or the program; `None` for that of `help` itself.

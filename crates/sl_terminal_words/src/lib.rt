@@ -18,7 +18,7 @@ mod system;
 mod texts;
 mod words;
 
-pub use answers::Answer;
+pub use answers::{Answer, out_of_memory};
 pub use command_line::{Asked, Request, Show, request_of};
 pub use options::Options;
 pub use reports::{Report, ReportForm};

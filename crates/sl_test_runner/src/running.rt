@@ -2,7 +2,7 @@
 
 use crate::rows::{Call, Named};
 use crate::shelf::{Shelf, bytes_of};
-use sl_terminal_commands::{Terminal, run};
+use sl_terminal_commands::{AllForms, Documented, Terminal, run};
 use sl_terminal_count::{Exit, run as run_counting};
 use sl_test_support::Narrow;
 use std::alloc::Global;
@@ -81,7 +81,7 @@ pub(crate) fn run_program(
     let shelf = shelf_of(alloc, files, variables, step);
     let (out, err) = (Narrow::new(alloc, step, 0), Narrow::new(alloc, step, 0));
     let mut terminal = Terminal::new(alloc, shelf, out, err);
-    let status = run(&mut terminal, words);
+    let status = run(&mut terminal, &AllForms, &Documented, words);
     let Terminal {
         outside,
         out,

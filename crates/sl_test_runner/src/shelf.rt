@@ -2,7 +2,7 @@
 
 use crate::rows::Named;
 use crate::unknown::Unknown;
-use sl_terminal_outside::Outside;
+use sl_terminal_outside::{Outside, Writable};
 use sl_test_support::{Narrow, Slow};
 use std::alloc::Global;
 
@@ -30,8 +30,6 @@ pub(crate) fn bytes_of<'a>(named: &'a [Named], name: &str) -> Option<&'a [u8]> {
 impl<'a> Outside for Shelf<'a> {
     type File = Unknown<Slow<'a>>;
 
-    type Made = Unknown<Narrow>;
-
     type Reason = &'static str;
 
     fn open(&self, path: &str) -> Result<Unknown<Slow<'a>>, &'static str> {
@@ -47,6 +45,15 @@ impl<'a> Outside for Shelf<'a> {
         self.open(path).ok()
     }
 
+    fn variable(&self, alloc: Global, name: &str) -> Option<String> {
+        let value = std::str::from_utf8(bytes_of(self.variables, name)?).ok()?;
+        String::from_str(alloc, value).ok()
+    }
+}
+
+impl<'a> Writable for Shelf<'a> {
+    type Made = Unknown<Narrow>;
+
     fn create(&mut self, path: &str) -> Result<Unknown<Narrow>, &'static str> {
         if path.contains("/") {
             return Err("No such file or directory (os error 2)");
@@ -60,10 +67,5 @@ impl<'a> Outside for Shelf<'a> {
         if let Ok(named) = Named::new(self.alloc, path, made.inner.taken.as_slice()) {
             let _ = self.made.push(named);
         }
-    }
-
-    fn variable(&self, alloc: Global, name: &str) -> Option<String> {
-        let value = std::str::from_utf8(bytes_of(self.variables, name)?).ok()?;
-        String::from_str(alloc, value).ok()
     }
 }

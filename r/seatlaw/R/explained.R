@@ -1,35 +1,23 @@
 # Why a call has no result: as the program says it, and in parts, which are read off the JSON of a report (docs/report.schema.json).
 
-# What explains a call: a function of the language, and one that gives the parts.
-of_count <- function(book, returns) {
-  list(text = function(language) told("explain_count", language, book, returns), parts = function() parts_of(book, returns))
+# The condition of a reply that is not done: `again` asks for the same with other options, and `files` are those of the request.
+fault_of <- function(reply, again, files) {
+  if (reply$status == 1) return(simpleError(sub("\n+$", "", reply$err)))
+  kinds <- c("seatlaw_refused", "seatlaw_legal_fault", "seatlaw_out_of_budget", "seatlaw_no_memory")
+  line <- if (reply$status == 5) "there is no memory" else line_of(reply$out)
+  structure(
+    class = c(kinds[reply$status - 1], "seatlaw_error", "error", "condition"),
+    list(
+      message = line, call = NULL, line = line, status = reply$status, explanation = function(language) again("--lang", language)$err,
+      explained = function() explained_of(if (is_json(reply$out)) reply$out else report_of(files))
+    )
+  )
 }
 
-# A rulebook is judged before the returns, so these may be no bytes.
-of_check <- function(book) list(text = function(language) told("explain_check", language, book), parts = function() parts_of(book, raw()))
-
-of_run <- function(code, returns) list(text = function(language) told("explain_run", language, code, returns), parts = function() NULL)
-
-UNEXPLAINED <- list(text = function(language) "", parts = function() NULL)
-
-# The rulebook, or a statute where there is none.
-or_statute <- function(book) if (length(book)) book else law("2023")
-
-told <- function(name, language, ...) ask(name, bytes(language), ...)[[2]]
-
-parts_of <- function(book, returns) explained_of(ask("report", book, returns, raw())[[2]])
-
-# A condition of a status with a text, which is a line, or JSON that has the line and the parts.
-fault_of <- function(status, text, explain) {
-  kinds <- c("2" = "seatlaw_refused", "3" = "seatlaw_legal_fault", "4" = "seatlaw_out_of_budget", "5" = "seatlaw_no_memory")
-  kind <- if (status %in% names(kinds)) kinds[[as.character(status)]] else "seatlaw_failed"
-  line <- if (status %in% 2:4) line_of(text) else paste("the library answered", status)
-  if (grepl("^refused (law|stage|names) ", line) || !status %in% 2:4) explain <- UNEXPLAINED
-  parts <- if (is_json(text)) function() explained_of(text) else explain$parts
-  structure(
-    class = c(kind, "seatlaw_error", "error", "condition"),
-    list(message = line, call = NULL, line = line, status = status, explanation = explain$text, explained = parts)
-  )
+# The JSON of a report on the inputs of a request without one. A rulebook is judged before the returns, so these may be no bytes.
+report_of <- function(files) {
+  if (is.null(files$book)) return("")
+  ask(c("report", "--json", "--quiet", "book", "returns"), list(book = files$book, returns = if (is.null(files$returns)) raw() else files$returns))$out
 }
 
 # The line of a refusal or of a fault.

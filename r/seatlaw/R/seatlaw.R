@@ -6,7 +6,7 @@ law <- function(name = NULL, file = NULL) {
 }
 
 # The text of a statute as bytes.
-law_text <- function(name) charToRaw(text_of(ask("law", bytes(name))))
+law_text <- function(name) charToRaw(done("law", name)$out)
 
 # The names of the statutes of the library.
 statutes <- function() strsplit(.Call(C_statutes), "\n")[[1]]
@@ -32,10 +32,10 @@ make_returns <- function(lands, parties, lists, winners = NULL, lots = NULL, hou
 }
 
 # The seat table: its total, and data frames of parties, lists, vacant seats, and constituencies of singles and of winners without a seat.
-count <- function(book, returns) table_of(counted("count", book, returns))
+count <- function(book, returns) table_of(counted("count", book, returns)$out)
 
 # Each seat with its step, the bounds of the divisors, and the seat table.
-steps <- function(book, returns) steps_of(counted("steps", book, returns))
+steps <- function(book, returns) steps_of(counted("steps", book, returns)$out)
 
 steps_of <- function(text) {
   lines <- lines_of(text)
@@ -49,62 +49,63 @@ steps_of <- function(text) {
 
 # The column of a stage.
 stage <- function(book, returns, name) {
-  words <- words_of(lines_of(counted("stage", book, returns, bytes(name))), c("entry", "value"))
+  words <- words_of(lines_of(counted("stage", book, returns, name)$out), c("entry", "value"))
   words$value <- as.integer(words$value)
   words
 }
 
 # The line of a good rulebook.
-check <- function(book) sub("\n$", "", text_of(ask("check", bytes(book)), of_check(bytes(book))))
+check <- function(book) sub("\n$", "", done("check", "book", list(book = bytes(book)))$out)
 
 # The tables of `report`, `totals` and `compare` as data frames, by jsonlite where it is there, and else as JSON.
-report <- function(book, returns, names = raw()) tables_of(counted("report", book, returns, bytes(names)))
-
-totals <- function(returns, book = raw(), names = raw()) {
-  book <- bytes(book)
-  returns <- bytes(returns)
-  tables_of(text_of(ask("totals", book, returns, bytes(names)), of_count(or_statute(book), returns)))
+report <- function(book, returns, names = raw(), short = FALSE, before = raw(), language = "en") {
+  tables_of(counted(c("report", "--json", if (short) "--short"), book, returns, options = list(names = names, before = before), language = language))
 }
 
-compare <- function(returns, books = paste0("@", statutes()), names = raw()) {
-  returns <- bytes(returns)
-  tables_of(text_of(ask("compare", bytes(paste(books, collapse = "\n")), raw(), returns, bytes(names)), of_count(or_statute(raw()), returns)))
+totals <- function(returns, book = raw(), names = raw(), language = "en") {
+  books <- not_empty(list(book = book))
+  tables_of(done(c("totals", "--json"), c("returns", names(books)), c(list(returns = bytes(returns)), books), list(names = names), language))
 }
 
-# All that comes of one count: the seat table, the steps, the tables of the report, the columns of the stages, and the tables of the totals.
-show_all <- function(book, returns, names = raw()) {
-  book <- bytes(book)
-  returns <- bytes(returns)
-  answer <- ask_parts("show", bytes("en"), book, returns, bytes(names))
-  parts <- vapply(answer[[2]], read_text, "")
-  seats <- text_of(list(answer[[1]], parts[1]), of_count(book, returns))
-  text_of(list(as.integer(member_of(parts[3], "status")), parts[3])) # names that are refused
-  list(table = table_of(seats), steps = steps_of(parts[2]), report = tables_of(parts[3]), stages = tables_of(parts[4]), totals = tables_of(parts[5]))
+# A rulebook of one's own is a raw vector in a list, where its name is the word for it.
+compare <- function(returns, books = paste0("@", statutes()), names = raw(), methods = character(), language = "en") {
+  is_own <- vapply(books, is.raw, TRUE)
+  words <- if (is.null(names(books))) rep("", length(books)) else names(books)
+  words[words == ""] <- "book"
+  files <- c(list(returns = bytes(returns)), structure(books[is_own], names = words[is_own]))
+  words[!is_own] <- unlist(books[!is_own])
+  if (anyDuplicated(names(files))) stop("two inputs have the same name: a rulebook may have one of its own")
+  tables_of(done(c("compare", "--json", sprintf("--method=%s", methods)), c("returns", words), files, list(names = names), language))
+}
+
+# All that comes of a rulebook and returns: the seat table, the steps, the tables of the report, the columns of the stages, and the tables of the totals.
+show_all <- function(book, returns, names = raw(), language = "en") {
+  won <- steps(book, returns)
+  told <- report(book, returns, names, language = language)
+  stages <- tables_of(counted(c("stages", "--json"), book, returns, options = list(names = names), language = language))
+  list(table = won$table, steps = won, report = told, stages = stages, totals = totals(returns, book, names, language))
 }
 
 # The bytes of a rulebook's code file, and the lines of its listing.
 code <- function(book) {
-  book <- bytes(book)
-  answer <- ask_parts("code", book)
-  listing <- text_of(list(answer[[1]], read_text(answer[[2]][[2]])), of_check(book))
-  list(file = answer[[2]][[1]], listing = lines_of(listing))
+  reply <- done("code", c("book", "out"), list(book = bytes(book)))
+  list(file = reply$made, listing = lines_of(reply$out))
 }
 
 # A code file.
 read_code <- function(file) readBin(file, "raw", file.size(file))
 
 # The seat table with which the run of a code file ends.
-run <- function(code, returns) {
-  code <- bytes(code)
-  returns <- bytes(returns)
-  table_of(text_of(ask("run", code, returns), of_run(code, returns)))
-}
+run <- function(code, returns) table_of(done("run", c("code", "returns"), list(code = bytes(code), returns = bytes(returns)))$out)
 
 # What the code of a fault means.
-explain <- function(code, language = "en") {
-  answer <- ask("explain_code", bytes(language), bytes(code))
-  if (answer[[1]] == 2) stop("no fault has the code ", code)
-  text_of(answer)
+explain <- function(code, language = "en") done("explain", code, language = language)$out
+
+# What the program does for these words behind its name, and for files of these names, raw vectors or lines.
+ask <- function(words, files = list()) {
+  stopifnot(length(files) == length(names(files)))
+  reply <- .Call(C_ask, as.character(words), as.character(names(files)), lapply(files, bytes))
+  list(status = reply[[1]], out = read_text(reply[[2]]), err = read_text(reply[[3]]), made = reply[[4]])
 }
 
 # The lot records that returns lack at a tie, of the condition that the call raised. That of a run has no parts: its text is read.
@@ -121,11 +122,6 @@ lots_lacking <- function(condition) {
 
 bytes <- function(x) if (is.raw(x)) x else charToRaw(enc2utf8(paste(x, collapse = "\n")))
 
-ask <- function(name, ...) .Call(C_ask, name, list(...))
-
-# An answer in parts, as raw vectors.
-ask_parts <- function(name, ...) .Call(C_ask_parts, name, list(...))
-
 # The text that bytes are.
 read_text <- function(data) {
   text <- rawToChar(data)
@@ -133,16 +129,22 @@ read_text <- function(data) {
   text
 }
 
-counted <- function(name, book, returns, ...) {
-  book <- bytes(book)
-  returns <- bytes(returns)
-  text_of(ask(name, book, returns, ...), of_count(book, returns))
+# The inputs that are any bytes.
+not_empty <- function(inputs) Filter(length, lapply(inputs, bytes))
+
+# The reply to a command on a rulebook and returns that is done.
+counted <- function(command, book, returns, ..., options = list(), language = "en") {
+  done(command, c("book", "returns", ...), list(book = bytes(book), returns = bytes(returns)), options, language)
 }
 
-# The text of an answer that is done; any other one raises a condition with the line, and functions that explain it.
-text_of <- function(answer, explain = UNEXPLAINED) {
-  if (answer[[1]] != 0) stop(fault_of(answer[[1]], answer[[2]], explain))
-  answer[[2]]
+# The reply to a command with its inputs and their files that is done; any other one raises a condition. `options` are files by the names of options.
+done <- function(command, inputs, files = list(), options = list(), language = "en") {
+  options <- not_empty(options)
+  words <- c(command, rbind(sprintf("--%s", names(options)), names(options)))
+  again <- function(...) ask(c(words, ..., "--", inputs), c(options, files))
+  reply <- again("--quiet", "--lang", language)
+  if (reply$status != 0) stop(fault_of(reply, again, files))
+  reply
 }
 
 lines_of <- function(text) strsplit(text, "\n", fixed = TRUE)[[1]]
@@ -186,4 +188,4 @@ scoped <- function(lines, names) {
   frame
 }
 
-tables_of <- function(json) if (requireNamespace("jsonlite", quietly = TRUE)) jsonlite::fromJSON(json)$tables else json
+tables_of <- function(reply) if (requireNamespace("jsonlite", quietly = TRUE)) jsonlite::fromJSON(reply$out)$tables else reply$out

@@ -10,7 +10,7 @@ lots_lacking(condition)
 }
 \arguments{
   \item{code}{the code of a fault, such as \code{B15}, as it stands in an explanation.}
-  \item{language}{\code{"de"} for German; any other for English.}
+  \item{language}{\code{"en"} or \code{"de"}.}
   \item{condition}{a condition of the class \code{seatlaw_legal_fault}.}
 }
 \value{

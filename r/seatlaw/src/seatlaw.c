@@ -1,55 +1,29 @@
-// The calls of the C library for R. `ask` and `ask_parts` take the name of a call and a list of raw vectors, and give a list of the status and the text,
-// or of the status and a raw vector for each part; `counts` counts returns that differ in numbers.
+// The calls of the C library for R: `ask` hands over words and files, and `counts` counts returns that differ in numbers.
 #include <R.h>
 #include <Rinternals.h>
 #include <R_ext/Rdynload.h>
 #include <string.h>
 #include "seatlaw.h"
 
-#define IN(i) (const char *)RAW(VECTOR_ELT(inputs, i)), (size_t)XLENGTH(VECTOR_ELT(inputs, i))
+static struct seatlaw_text word_of(SEXP word) { return seatlaw_string(Rf_translateCharUTF8(word)); }
 
-enum { MOST_PARTS = 6 };
-
-// An answer in parts, and where they end.
-struct parts {
-    struct seatlaw_text answer;
-    size_t ends[MOST_PARTS];
-    int count;
-};
-
-static int called(const char *name, SEXP inputs, struct seatlaw_text *answer) {
-    if (!strcmp(name, "count")) return seatlaw_count(IN(0), IN(1), answer);
-    if (!strcmp(name, "steps")) return seatlaw_steps(IN(0), IN(1), answer);
-    if (!strcmp(name, "stage")) return seatlaw_stage(IN(0), IN(1), IN(2), answer);
-    if (!strcmp(name, "check")) return seatlaw_check(IN(0), answer);
-    if (!strcmp(name, "law")) return seatlaw_law(IN(0), answer);
-    if (!strcmp(name, "run")) return seatlaw_run(IN(0), IN(1), answer);
-    if (!strcmp(name, "report")) return seatlaw_report(IN(0), IN(1), IN(2), answer);
-    if (!strcmp(name, "totals")) return seatlaw_totals(IN(0), IN(1), IN(2), answer);
-    if (!strcmp(name, "compare")) return seatlaw_compare(IN(0), IN(1), IN(2), IN(3), answer);
-    if (!strcmp(name, "explain_check")) return seatlaw_explain_check(IN(0), IN(1), answer);
-    if (!strcmp(name, "explain_run")) return seatlaw_explain_run(IN(0), IN(1), IN(2), answer);
-    if (!strcmp(name, "explain_code")) return seatlaw_explain_code(IN(0), IN(1), answer);
-    return seatlaw_explain_count(IN(0), IN(1), IN(2), answer);
+static struct seatlaw_text bytes_of(SEXP bytes) {
+    struct seatlaw_text text = {(const char *)RAW(bytes), (size_t)XLENGTH(bytes)};
+    return text;
 }
 
-static int called_parts(const char *name, SEXP inputs, struct parts *parts) {
-    if (!strcmp(name, "code")) {
-        struct seatlaw_code_parts ends;
-        int status = seatlaw_code(IN(0), &parts->answer, &ends);
-        *parts = (struct parts){parts->answer, {ends.file, ends.listing}, 2};
-        return status;
+// A list of the status and of raw vectors of the three texts. R may cut off its making: the reply is given back all the same.
+static SEXP list_of(void *data) {
+    const struct seatlaw_reply *reply = data;
+    const struct seatlaw_text texts[] = {reply->out, reply->err, reply->made};
+    SEXP result = PROTECT(Rf_allocVector(VECSXP, 4));
+    SET_VECTOR_ELT(result, 0, Rf_ScalarInteger((int)reply->status));
+    for (int i = 0; i < 3; i++) {
+        SET_VECTOR_ELT(result, i + 1, Rf_allocVector(RAWSXP, (R_xlen_t)texts[i].length));
+        if (texts[i].length) memcpy(RAW(VECTOR_ELT(result, i + 1)), texts[i].bytes, texts[i].length);
     }
-    struct seatlaw_parts ends;
-    int status = seatlaw_show(IN(0), IN(1), IN(2), IN(3), &parts->answer, &ends);
-    *parts = (struct parts){parts->answer, {ends.seats, ends.steps, ends.report, ends.stages, ends.totals, ends.explanation}, 6};
-    return status;
-}
-
-// A text of R, whose making may be cut off by R: the answer is given back all the same.
-static SEXP text_of(void *data) {
-    const struct seatlaw_text *answer = data;
-    return Rf_ScalarString(Rf_mkCharLenCE(answer->bytes ? answer->bytes : "", (int)answer->length, CE_UTF8));
+    UNPROTECT(1);
+    return result;
 }
 
 static void give_back(void *data, Rboolean jump) {
@@ -57,36 +31,21 @@ static void give_back(void *data, Rboolean jump) {
     seatlaw_free(data);
 }
 
-static SEXP ask(SEXP name, SEXP inputs) {
-    struct seatlaw_text answer;
-    SEXP token = PROTECT(R_MakeUnwindCont()), result = PROTECT(Rf_allocVector(VECSXP, 2));
-    SET_VECTOR_ELT(result, 0, Rf_ScalarInteger(0));
-    INTEGER(VECTOR_ELT(result, 0))[0] = called(CHAR(STRING_ELT(name, 0)), inputs, &answer);
-    SET_VECTOR_ELT(result, 1, R_UnwindProtect(text_of, &answer, give_back, &answer, token));
-    UNPROTECT(2);
-    return result;
-}
-
-// The raw vectors of the parts, in the same way.
-static SEXP parts_of(void *data) {
-    const struct parts *parts = data;
-    SEXP result = PROTECT(Rf_allocVector(VECSXP, parts->count));
-    for (int i = 0; i < parts->count; i++) {
-        size_t begin = i ? parts->ends[i - 1] : 0, length = parts->ends[i] - begin;
-        SET_VECTOR_ELT(result, i, Rf_allocVector(RAWSXP, (R_xlen_t)length));
-        if (length) memcpy(RAW(VECTOR_ELT(result, i)), parts->answer.bytes + begin, length);
+// The reply to words, and to files, raw vectors, of these names.
+static SEXP ask(SEXP words, SEXP names, SEXP files) {
+    size_t words_length = (size_t)XLENGTH(words), files_length = (size_t)XLENGTH(files);
+    struct seatlaw_text *asked = (struct seatlaw_text *)R_alloc(words_length + 1, sizeof *asked);
+    struct seatlaw_file *handed = (struct seatlaw_file *)R_alloc(files_length + 1, sizeof *handed);
+    for (size_t i = 0; i < words_length; i++) asked[i] = word_of(STRING_ELT(words, (R_xlen_t)i));
+    for (size_t i = 0; i < files_length; i++) {
+        handed[i].name = word_of(STRING_ELT(names, (R_xlen_t)i));
+        handed[i].bytes = bytes_of(VECTOR_ELT(files, (R_xlen_t)i));
     }
+    struct seatlaw_reply reply;
+    SEXP token = PROTECT(R_MakeUnwindCont());
+    seatlaw_ask(asked, words_length, handed, files_length, &reply);
+    SEXP result = R_UnwindProtect(list_of, &reply, give_back, &reply, token);
     UNPROTECT(1);
-    return result;
-}
-
-static SEXP ask_parts(SEXP name, SEXP inputs) {
-    struct parts parts;
-    SEXP token = PROTECT(R_MakeUnwindCont()), result = PROTECT(Rf_allocVector(VECSXP, 2));
-    SET_VECTOR_ELT(result, 0, Rf_ScalarInteger(0));
-    INTEGER(VECTOR_ELT(result, 0))[0] = called_parts(CHAR(STRING_ELT(name, 0)), inputs, &parts);
-    SET_VECTOR_ELT(result, 1, R_UnwindProtect(parts_of, &parts, give_back, &parts.answer, token));
-    UNPROTECT(2);
     return result;
 }
 
@@ -112,8 +71,7 @@ static SEXP counts(SEXP book, SEXP text, SEXP places, SEXP columns, SEXP numbers
     SEXP result = PROTECT(Rf_allocVector(VECSXP, 2));
     SET_VECTOR_ELT(result, 0, Rf_allocVector(RAWSXP, (R_xlen_t)rows));
     SET_VECTOR_ELT(result, 1, Rf_allocVector(INTSXP, (R_xlen_t)(rows * width)));
-    int status = seatlaw_counts((const char *)RAW(book), (size_t)XLENGTH(book), &returns, whole(numbers), rows, INTEGER(VECTOR_ELT(result, 1)), width,
-                                RAW(VECTOR_ELT(result, 0)));
+    int status = seatlaw_counts(bytes_of(book), &returns, whole(numbers), rows, INTEGER(VECTOR_ELT(result, 1)), width, RAW(VECTOR_ELT(result, 0)));
     if (status != SEATLAW_DONE) Rf_error("there is no memory for the counts");
     UNPROTECT(1);
     return result;
@@ -124,7 +82,7 @@ static SEXP statutes(void) {
 }
 
 static const R_CallMethodDef calls[] = {
-    {"ask", (DL_FUNC)&ask, 2}, {"ask_parts", (DL_FUNC)&ask_parts, 2}, {"counts", (DL_FUNC)&counts, 6}, {"statutes", (DL_FUNC)&statutes, 0}, {NULL, NULL, 0}};
+    {"ask", (DL_FUNC)&ask, 3}, {"counts", (DL_FUNC)&counts, 6}, {"statutes", (DL_FUNC)&statutes, 0}, {NULL, NULL, 0}};
 
 void R_init_seatlaw(DllInfo *library) {
     R_registerRoutines(library, NULL, calls, NULL, NULL);

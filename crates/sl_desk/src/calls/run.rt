@@ -1,7 +1,7 @@
 //! Running a code file: from its bytes and returns to the text of how the run ends.
 
 ghost use Rattle.std.specs.Prelude.{◌⊎◌, ◌≡◌, ◌+◌, IfOk, IfErr, IfSome};
-ghost use Rattle.sl_desk.specs.JudgedRuns.{FitsJudged, IsJudged, IsJudgedOn, IsRunAnswer, RunsInto};
+ghost use Rattle.sl_desk.specs.JudgedRuns.{FitsJudged, IsJudged, IsJudgedOn, IsRunAnswer, IsTable, RunsInto};
 ghost use Rattle.sl_desk.specs.Running.{IsRunCode, ReadsBehindCode};
 ghost use Rattle.sl_count_inputs.specs.Failures.{counts, counts_after};
 ghost use Rattle.sl_count_inputs.specs.Reading.{ForKnown, TakesAtMost};
@@ -130,7 +130,9 @@ pub fn judge_run<C: Source, R: Source>(
 pub fn run_answer(alloc: Global, judged: &JudgedRun) -> Result<Answer, NoMemory>
     requires { FitsJudged judged.now }
     // Whatever two inputs came to it, it is the output of running the one on the other.
-    ensures { IfOk result (λ a. IsRunAnswer judged.now a.status a.text.items) }
+    ensures output { IfOk result (λ a. IsRunAnswer judged.now a.status a.text.items) }
+    // Only a table has the status `Done`.
+    ensures done { IfOk result (λ a. a.status ≡ Status.Done → IsTable judged.now) }
 {
     match judged {
         JudgedRun::CodeRefused(code) => Ok(Answer::refused(code.line(alloc)?)),

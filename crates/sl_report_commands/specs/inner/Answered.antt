@@ -1,18 +1,14 @@
--- What `totals` and `compare` answer, by what their inputs come to.
-use Rattle.std.specs.List.{AllZip}
-use Rattle.std.specs.Prelude.{Any, Bool, List, None, Option, Some, false, true, ◌⊎◌, ◌≡◌}
+-- What `totals` answers, by what its inputs come to.
+use Rattle.std.specs.Prelude.{Bool, List, None, Option, Some, false, true, ◌⊎◌, ◌≡◌}
 use Rattle.sl_count_inputs.specs.Books.{BookInput, IsBookVerdict}
-use Rattle.sl_count_inputs.specs.Judging.{input_of, tree_verdict}
+use Rattle.sl_count_inputs.specs.Judging.{tree_verdict}
 use Rattle.sl_count_inputs.specs.declared.refused_book.RefusedBook.{RefusedBook}
 use Rattle.sl_count_inputs.specs.declared.refused_election.RefusedElection.{RefusedElection}
 use Rattle.sl_count_inputs.specs.declared.status.Status.TheVariants as status
 use Rattle.sl_count_inputs.specs.declared.status.Status.{Status}
 use Rattle.sl_count_inputs.specs.declared.verdict.Verdict.TheVariants.{Good, Refused}
 use Rattle.sl_count_inputs.specs.declared.verdict.Verdict.{Verdict}
-use Rattle.sl_report_commands.specs.Compared.{ShowsCompared}
-use Rattle.sl_report_commands.specs.Summaries.{IsGoodNamed, IsRefusal, IsRefusedBook}
-use Rattle.sl_report_commands.specs.declared.comparison.Compared.{Compared}
-use Rattle.sl_report_commands.specs.declared.comparison.Named.{Named}
+use Rattle.sl_report_commands.specs.Summaries.{IsRefusal}
 use Rattle.sl_report_forms.specs.Tables.{Table}
 use Rattle.sl_report_tables.specs.Totals.{AreTotals}
 use Rattle.sl_law_meaning.specs.declared.book.Book.{Book}
@@ -39,18 +35,3 @@ abbrev pub IsTotalsBy : Bool → Option (Verdict CheckedBook RefusedBook) → Ve
 IsTotalsBy are_refused None = IsTotalsOn are_refused None
 IsTotalsBy are_refused (Some (Good checked)) = IsTotalsOn are_refused (Some checked.book)
 IsTotalsBy are_refused (Some (Refused why)) = λ returns. IsRefusal
-
--- rulebooks side by side; or a refusal of the names
-abbrev pub IsNamedComparison : Bool → List Compared → Election → Status → List Table → Type 0
-IsNamedComparison are_refused books e ends tables =
-    ((are_refused ≡ false) × (ends ≡ status.Done) × ShowsCompared e books tables) ⊎ ((are_refused ≡ true) × IsRefusal ends tables)
-
--- good rulebooks, or a refusal of one of them
-abbrev pub IsComparisonOn : Bool → List Named → Election → Status → List Table → Type 0
-IsComparisonOn are_refused named e ends tables =
-    ((books : List Compared) × AllZip IsGoodNamed named books × IsNamedComparison are_refused books e ends tables)
-    ⊎ (IsRefusal ends tables × Any (λ n. IsRefusedBook (input_of n.book)) named)
-
-abbrev pub IsComparisonBy : Bool → List Named → Verdict Election RefusedElection → Status → List Table → Type 0
-IsComparisonBy are_refused named (Good e) = IsComparisonOn are_refused named e
-IsComparisonBy are_refused named (Refused why) = IsRefusal

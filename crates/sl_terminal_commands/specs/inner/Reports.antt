@@ -1,20 +1,29 @@
--- The end of a report of one count, by the answer that shows it or that refuses the names; and what is read beside its inputs.
-use Rattle.std.specs.Prelude.{Bool, Err, IfSome, List, None, Ok, Option, Result, Some, option_map, ◌≡◌, ℕ}
-use Rattle.sl_count_calls.specs.Judged.{IsJudged}
+-- What is read beside the inputs of a report, and what a report answers of what its inputs come to.
+use Rattle.std.specs.Borrow.{Bor}
+use Rattle.std.specs.Prelude.{Bool, IfSome, List, None, Option, Some, false, map, option_map, ◌||◌, ◌≡◌, ℕ}
 use Rattle.sl_count_calls.specs.declared.judged.Judged.{Judged}
-use Rattle.sl_count_inputs.specs.Books.{BookInput}
 use Rattle.sl_count_inputs.specs.Inputs.{Holds}
 use Rattle.sl_count_inputs.specs.Reading.{ForKnown}
+use Rattle.sl_count_inputs.specs.declared.input.Bytes.TheVariants.{TooLong, Whole}
 use Rattle.sl_count_inputs.specs.declared.input.Bytes.{Bytes}
-use Rattle.sl_count_inputs.specs.declared.status.Status.{Status}
-use Rattle.sl_report_commands.specs.Statuses.{IsReportStatus}
+use Rattle.sl_report_commands.specs.Reports.{IsReport, IsShown}
+use Rattle.sl_report_commands.specs.Written.{IsWritten, command_of}
+use Rattle.sl_report_commands.specs.declared.written.Style.{Style}
+use Rattle.sl_report_forms.specs.Tables.{table_of}
+use Rattle.sl_report_forms.specs.declared.heading.Heading.{Heading}
+use Rattle.sl_report_parties.specs.declared.earlier.EarlierParty.{EarlierParty}
+use Rattle.sl_report_tables.specs.Earlier.{is_refused_in}
+use Rattle.sl_report_tables.specs.Reports.{beside}
 use Rattle.sl_report_tables.specs.declared.answer.Answer.{Answer}
-use Rattle.sl_law_meaning.specs.declared.count.Records.TheVariants.{Kept}
+use Rattle.sl_report_tables.specs.declared.answer.Shape.{Shape}
+use Rattle.sl_report_tables.specs.declared.counts.Show.{Show}
 use Rattle.sl_terminal_commands.specs.Beside.{AreBeside}
-use Rattle.sl_terminal_commands.specs.Requests.{IsReportOf}
-use Rattle.sl_terminal_commands.specs.Said.{Said, nothing, report_said}
-use Rattle.sl_terminal_commands.specs.Tellings.{IsOfReport}
+use Rattle.sl_terminal_commands.specs.Requests.{AreEarlier, AreTold}
+use Rattle.sl_terminal_commands.specs.Said.{IsSaid, report_said}
+use Rattle.sl_terminal_commands.specs.declared.answered.Answered.{Answered}
+use Rattle.sl_terminal_commands.specs.declared.reports.Paths.{Paths}
 use Rattle.sl_terminal_commands.specs.declared.reports.Writing.{Writing}
+use Rattle.sl_terminal_outside.specs.Inputs.{named_input}
 
 -- the bytes of a file, if one is given, within a limit
 abbrev pub IsReadFrom : (List ℕ → Option (List ℕ)) → (path : Option (List ℕ)) → (limit : ℕ) → Option Bytes → Type 0
@@ -23,31 +32,36 @@ IsReadFrom bytes (Some path) limit None = ⊥
 IsReadFrom bytes (Some path) limit (Some read) = IfSome (bytes path) (Holds limit read)
 
 -- with what a report is written
-abbrev pub AreBesideIn : (List ℕ → Option (List ℕ)) → Writing → (is_refused : Bool) → Type 0
-AreBesideIn bytes w = AreBeside bytes (option_map (λ path. path.now) w.names) (option_map (λ path. path.now) w.before)
+abbrev pub AreBesideIn : (List ℕ → Option (List ℕ)) → Writing → (is_refused : Bool) → Option (Bor (List EarlierParty)) → Type 0
+AreBesideIn bytes w is_refused found =
+    AreBeside bytes (option_map (λ path. path.now) w.names) (option_map (λ path. path.now) w.before) is_refused
+    × AreEarlier bytes (option_map (λ path. path.now) w.before) found
 
-abbrev pub IsReportIn : (List ℕ → Option (List ℕ)) → List ℕ → List ℕ → Writing → Status → Type 0
-IsReportIn bytes book returns w = IsReportOf bytes book returns (option_map (λ path. path.now) w.names) (option_map (λ path. path.now) w.before)
+-- the parties of an earlier table that was read, where it is not refused
+abbrev pub AreToldIn : Option Bytes → Option (Bor (List EarlierParty)) → Type 0
+AreToldIn None found = found ≡ None
+AreToldIn (Some TooLong) found = Unit {0}
+AreToldIn (Some (Whole text)) found = is_refused_in (Some (Whole text)) ≡ false → AreTold found text.items
 
-abbrev pub IsOfReportIn : (List ℕ → Option (List ℕ)) → List ℕ → List ℕ → Writing → (Said → Type 0) → Type 0
-IsOfReportIn bytes book returns w = IsOfReport bytes book returns (option_map (λ path. path.now) w.names) (option_map (λ path. path.now) w.before)
+-- what a report of inputs that come to this answers: its tables, its text, and what is said of it
+pub record IsReportAnswer (IsText : Shape → Heading → Answer → List ℕ → Type 0) (show : Show) (is_refused : Bool) (judged : Judged) (style : Style) (a : Answered) : Type 0 where
+  pub answer : Answer
+  pub status : a.status ≡ answer.status
+  pub tables : IsShown show is_refused judged a.status (map table_of answer.sheets.items)
+  pub digests : List (List ℕ)
+  pub written : IsWritten IsText (command_of show) style digests answer a.text.items
+  pub said : IsSaid style.language (report_said is_refused judged) a.said.items
 
--- the end of a report on what its inputs came to: whichever inputs these were, the status is that of a report on them
-abbrev pub IsEndOfJudged : (List ℕ → Option (List ℕ)) → Writing → Judged → Status → Type 0
-IsEndOfJudged bytes w judged ends =
-    (is_refused : Bool) × AreBesideIn bytes w is_refused
-    × ((book : Option BookInput) → (returns : Option (List ℕ)) → ForKnown book returns (λ input known. IsJudged Kept None input known judged)
-    → ForKnown book returns (λ input known. IsReportStatus is_refused input known ends))
+-- the same beside an earlier table that was read
+abbrev pub IsReportBeside : (Shape → Heading → Answer → List ℕ → Type 0) → Show → (are_refused : Bool) → Option Bytes → Judged → Style → Answered → Type 0
+IsReportBeside IsText show are_refused table judged style a =
+    (found : Option (Bor (List EarlierParty))) × AreToldIn table found × IsReportAnswer IsText (beside found show) (are_refused || is_refused_in table) judged style a
 
-abbrev pub IsOfJudged : (List ℕ → Option (List ℕ)) → Writing → Judged → (Said → Type 0) → Type 0
-IsOfJudged bytes w judged Says = (is_refused : Bool) × AreBesideIn bytes w is_refused × Says (report_said is_refused judged)
-
--- the status is that of the answer
-abbrev pub IsShownBy : Result Answer Answer → Status → Type 0
-IsShownBy (Ok answer) ends = ends ≡ answer.status
-IsShownBy (Err refusal) ends = ends ≡ refusal.status
-
--- what is told, where names are not refused
-abbrev pub SaysBy : Result Answer Answer → Said → (Said → Type 0) → Type 0
-SaysBy (Ok answer) said Says = Says said
-SaysBy (Err refusal) said Says = Says nothing
+-- what a report of the inputs at these paths answers: its tables and its text
+pub record IsReportIn (IsText : Shape → Heading → Answer → List ℕ → Type 0) (bytes : List ℕ → Option (List ℕ)) (show : Show) (is_refused : Bool) (paths : Paths)
+    (style : Style) (a : Answered) : Type 0 where
+  pub answer : Answer
+  pub status : a.status ≡ answer.status
+  pub tables : ForKnown (named_input bytes paths.book.now) (bytes paths.returns.now) (λ input known. IsReport show is_refused input known a.status (map table_of answer.sheets.items))
+  pub digests : List (List ℕ)
+  pub written : IsWritten IsText (command_of show) style digests answer a.text.items

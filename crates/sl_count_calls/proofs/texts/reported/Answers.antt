@@ -5,8 +5,8 @@ use Rattle.sl_count_calls.specs.Counting.{IsTableText}
 use Rattle.sl_count_calls.specs.Reports.{IsReported}
 use Rattle.sl_law_meaning.specs.book.Books.{book_of}
 
-pub returns-in_ok-text-in-Counted : goal.returns-in_ok-text-in-Counted
-returns-in_ok-text-in-Counted c =
+pub returns-in_ok-text-in-Counted-clause-output : goal.returns-in_ok-text-in-Counted-clause-output
+returns-in_ok-text-in-Counted-clause-output c =
     let counting = c.args.counting.now in
     λ meant. inl (
       c.done.ensures.status,

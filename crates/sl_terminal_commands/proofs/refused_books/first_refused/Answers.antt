@@ -2,7 +2,7 @@ use Rattle.std.proofs.Common.{ap, arith, sym, ◌∙◌}
 use Rattle.std.proofs.lemmas.List.{get_or_default}
 use Rattle.std.proofs.lemmas.List.Elements.{AllWithin-more}
 use Rattle.sl_terminal_commands.specs.declared.sums.NamedBook.{NamedBook}
-use Rattle.sl_terminal_commands.specs.inner.Verdicts.{IsGood}
+use Rattle.sl_terminal_commands.specs.inner.Comparing.{IsGood}
 use Rattle.sl_terminal_commands.proofs.refused_books.first_refused.Goals as goal
 
 pub loop-number-preserved : goal.loop-number-preserved

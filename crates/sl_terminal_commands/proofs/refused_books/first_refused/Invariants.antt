@@ -1,5 +1,5 @@
 use Rattle.std.specs.List.{AllWithin}
-use Rattle.sl_terminal_commands.specs.inner.Verdicts.{IsGood}
+use Rattle.sl_terminal_commands.specs.inner.Comparing.{IsGood}
 use Rattle.sl_terminal_commands.proofs.refused_books.first_refused.Given as goal
 
 -- those before are good

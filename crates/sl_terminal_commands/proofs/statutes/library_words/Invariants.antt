@@ -1,6 +1,6 @@
 use Rattle.std.proofs.Common.{drop, map, string_bytes, ◌++◌, ◌∷◌, ◌≡◌}
 use Rattle.sl_laws.specs.declared.books.Statute.{Statute}
-use Rattle.sl_terminal_commands.specs.Sums.{library_words}
+use Rattle.sl_terminal_commands.specs.Comparisons.{library_words}
 use Rattle.sl_terminal_commands.proofs.statutes.library_words.Given as goal
 
 -- the words so far, and those of the statutes that are left

@@ -5,19 +5,19 @@ use Rattle.sl_desk.specs.JudgedRuns.{IsJudged}
 use Rattle.sl_count_inputs.specs.Judging.{returns_refusal_of}
 use Rattle.sl_count_inputs.specs.Returns.{returns_line}
 
-pub returns-in_ok-line-in-CodeRefused : goal.returns-in_ok-line-in-CodeRefused
-returns-in_ok-line-in-CodeRefused c =
+pub returns-in_ok-line-in-CodeRefused-clause-output : goal.returns-in_ok-line-in-CodeRefused-clause-output
+returns-in_ok-line-in-CodeRefused-clause-output c =
     λ file returns is.
     refused_file file returns c.refused.result.status c.refused.result.text.items c.in-CodeRefused.code (subst (λ j. IsJudged file returns j) c.in-CodeRefused.is is)
     c.refused.ensures.status (ap (λ v. v.items) c.refused.ensures.text ∙ c.in_ok-line-in-CodeRefused.ensures)
 
-pub returns-in_ok-line-in-ReturnsRefused : goal.returns-in_ok-line-in-ReturnsRefused
-returns-in_ok-line-in-ReturnsRefused c =
+pub returns-in_ok-line-in-ReturnsRefused-clause-output : goal.returns-in_ok-line-in-ReturnsRefused-clause-output
+returns-in_ok-line-in-ReturnsRefused-clause-output c =
     let answer = c.refused-in-ReturnsRefused in
     λ file returns is.
     let on = subst (λ j. IsJudged file returns j) c.in-ReturnsRefused.is is in
     refused_returns file returns answer.result.status answer.result.text.items on.0 (returns_refusal_of c.in-ReturnsRefused.returns) on.1 on.2 answer.ensures.status
     (ap (λ v. v.items) answer.ensures.text ∙ c.in_ok-line-in-ReturnsRefused.ensures ∙ ap returns_line c.why.ensures)
 
-pub returns-in-Ran : goal.returns-in-Ran
-returns-in-Ran c = answers_run c.in-Ran.run' c.args.judged.now c.run_text.result c.in-Ran.is (rw c.code.ensures.code at c.run_text.ensures)
+pub returns-in-Ran-clause-output : goal.returns-in-Ran-clause-output
+returns-in-Ran-clause-output c = answers_run c.in-Ran.run' c.args.judged.now c.run_text.result c.in-Ran.is (rw c.code.ensures.code at c.run_text.ensures.output)

@@ -5,4 +5,4 @@ use Rattle.sl_desk.specs.JudgedRuns.{IsRunAnswer}
 pub returns-clause-delivers : goal.returns-clause-delivers
 returns-clause-delivers g c =
     delivers_text (IsRunAnswer c.args.judged.now) c.in_ok-answer.answer.status c.in_ok-answer.answer.text.items (g.W.Sink.contents c.args.out.now)
-    (g.W.Sink.contents c.deliver.new.out) c.deliver.result c.in_ok-answer.ensures c.deliver.ensures.delivers
+    (g.W.Sink.contents c.deliver.new.out) c.deliver.result c.in_ok-answer.ensures.output c.deliver.ensures.delivers
