@@ -34,7 +34,7 @@ PROMISING = {
     CRATES / name
     for name in (
         "sl_count_inputs", "sl_count_code_files", "sl_count_calls", "sl_desk", "sl_explain_texts", "sl_explain_calls", "sl_law_library",
-        "sl_law_margins", "sl_report_commands", "sl_page_calls", "sl_terminal_count", "sl_terminal_outside", "sl_terminal_commands",
+        "sl_law_margins", "sl_report_commands", "sl_page_calls", "sl_terminal_count", "sl_terminal_outside", "sl_terminal_words", "sl_terminal_commands",
     )
 }
 WORD = re.compile(r"[^\W\d]\w*")

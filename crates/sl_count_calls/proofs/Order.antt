@@ -1,20 +1,24 @@
 -- The book is judged before the returns are read.
-use Rattle.std.proofs.Common.{◌≡◌, ◌≢◌, ℕ, ◌+◌, ◌-◌, ◌^◌, min, List, Option, Some, None, IfSome, IfOk, Result, Ok, Err, refl, ap, arith}
+use Rattle.std.proofs.Common.{◌≡◌, ◌≢◌, ℕ, ◌+◌, ◌-◌, ◌^◌, min, List, Option, Some, None, IfSome, IfOk, Result, Ok, Err, refl, sym, ap, subst, arith}
 use Rattle.sl_count_calls.specs.Judged.{IsJudged, IsJudgedOn, unknown_in}
-use Rattle.sl_count_calls.specs.Reading.{IsNoGoodBook, ReadsAfter}
+use Rattle.sl_count_calls.specs.Reading.{HasTexts, IsNoGoodBook, IsReturnsText, ReadsAfter}
 use Rattle.sl_count_calls.specs.declared.judged.Judged.TheVariants.{BookRefused, Counted, ReturnsRefused, StageUnknown}
 use Rattle.sl_count_calls.specs.declared.judged.Judged.{Judged}
 use Rattle.sl_count_calls.specs.declared.reading.Read.{Read}
 use Rattle.sl_law_meaning.specs.declared.count.Records.{Records}
 use Rattle.sl_count_inputs.specs.Books.{BookInput, IsBookVerdict}
 use Rattle.sl_count_inputs.specs.Failures.{Counts, counts, counts_after}
+use Rattle.sl_count_inputs.specs.Holding.{HoldsBook}
+use Rattle.sl_count_inputs.specs.Judging.{refusal_of}
 use Rattle.sl_count_inputs.specs.Reading.{ForKnown, ReadsBehind, TakesAtMost}
+use Rattle.sl_count_inputs.specs.Texts.{IsBookText, bytes_of}
 use Rattle.sl_count_inputs.specs.declared.limits.TheConstants.{MAX_RETURNS_BYTES}
+use Rattle.sl_count_inputs.specs.declared.refused_book.RefusedBook.{RefusedBook}
 use Rattle.sl_count_inputs.specs.declared.status.DeskError.TheVariants as fault
 use Rattle.sl_count_inputs.specs.declared.status.DeskError.{DeskError}
 use Rattle.sl_count_inputs.specs.declared.status.Input.TheVariants.{Before, Book, Code, Names, Returns}
 use Rattle.sl_count_inputs.specs.declared.status.Input.{Input}
-use Rattle.sl_count_inputs.specs.declared.verdict.Verdict.TheVariants.{Good}
+use Rattle.sl_count_inputs.specs.declared.verdict.Verdict.TheVariants.{Good, Refused}
 use Rattle.sl_law_meaning.specs.book.Trees.{BookTree}
 
 -- ---- returns that are read after a good input
@@ -81,3 +85,20 @@ module _ (asked : Option (List ℕ)) (tree : BookTree) (there : unknown_in asked
   judged_known r None returns (Ok read) good on = tt
   judged_known r (Some input) None (Ok read) good on = tt
   judged_known r (Some input) (Some bytes) (Ok read) good on = judged_on r input bytes read.judged good on
+
+-- a refused book, with what was read of it
+pub refused_known : (r : Records) (asked : Option (List ℕ)) (book : Option BookInput) (returns : Option (List ℕ)) (judged : Judged) (refused : RefusedBook) → judged ≡ BookRefused refused
+    → IfSome book (λ i. IsBookVerdict i (Refused (refusal_of refused))) → IfSome book (λ i. HoldsBook (bytes_of i) refused)
+    → ForKnown book returns (λ input bytes. IsJudged r asked input bytes judged)
+refused_known r asked None returns judged refused same verdict holds = tt
+refused_known r asked (Some input) None judged refused same verdict holds = tt
+refused_known r asked (Some input) (Some bytes) judged refused same verdict holds = subst (λ (j : Judged). IsJudged r asked input bytes j) (sym same) (verdict, holds)
+
+-- the texts of both
+pub has_texts : {E : Type 0} (book : Option BookInput) (returns : Option (List ℕ)) (text : List ℕ) (result : Result Read E) → IfSome book (λ input. IsBookText input text)
+    → IfOk result (λ read. read.book.items ≡ text) → IfOk result (λ read. IsReturnsText read.judged returns read.returns.items) → IfOk result (HasTexts book returns)
+has_texts book returns text (Err e) of_book same of_returns = tt
+has_texts book returns text (Ok read) of_book same of_returns = record {
+  book = subst (λ (t : List ℕ). IfSome book (λ input. IsBookText input t)) (sym same) of_book;
+  returns = of_returns;
+}

@@ -6,9 +6,11 @@ use Rattle.sl_count_calls.specs.declared.judged.Judged.{Judged}
 use Rattle.sl_law_meaning.specs.meaning.Counts.{IsMeantEnd}
 use Rattle.sl_law_meaning.specs.declared.count.Records.{Records}
 use Rattle.sl_count_inputs.specs.Books.{BookInput, IsBookVerdict}
+use Rattle.sl_count_inputs.specs.Holding.{HoldsBook, HoldsReturns}
 use Rattle.sl_count_inputs.specs.Judging.{refusal_of, returns_refusal_of}
 use Rattle.sl_count_inputs.specs.Returns.{IsReturnsVerdict}
 use Rattle.sl_count_inputs.specs.StageNames.{stage_number}
+use Rattle.sl_count_inputs.specs.Texts.{bytes_of}
 use Rattle.sl_count_inputs.specs.declared.verdict.Verdict.TheVariants.{Good, Refused}
 use Rattle.sl_law_meaning.specs.book.Books.{book_of}
 use Rattle.sl_law_meaning.specs.book.Trees.{BookTree}
@@ -26,15 +28,16 @@ pub record IsCounting (r : Records) (tree : BookTree) (e : Election) (c : Counti
   pub records : c.records ≡ r
   pub meant : IsMeantEnd r tree e c.outcome.end
 
--- a good book that has what is asked for: the returns are refused, or it is counted
+-- a good book that has what is asked for: the returns are refused, with what was read of them until then, or it is counted
 abbrev pub IsJudgedOn : Records → BookTree → List ℕ → Judged → Type 0
-IsJudgedOn r tree returns (ReturnsRefused refused) = IsReturnsVerdict returns (Refused (returns_refusal_of refused))
+IsJudgedOn r tree returns (ReturnsRefused refused) = IsReturnsVerdict returns (Refused (returns_refusal_of refused)) × HoldsReturns returns refused
 IsJudgedOn r tree returns (Counted c) = (e : Election) × IsReturnsVerdict returns (Good e) × IsCounting r tree e c
 IsJudgedOn r tree returns _ = ⊥
 
--- the book is refused; or it is good and has no stage of the name that is asked for; or it has it, and is judged on the returns
+-- the book is refused, with what was read of it until then; or it is good and has no stage of the name that is asked for; or it has it, and is judged on
+-- the returns
 abbrev pub IsJudged : Records → Option (List ℕ) → BookInput → List ℕ → Judged → Type 0
-IsJudged r asked input returns (BookRefused book) = IsBookVerdict input (Refused (refusal_of book))
+IsJudged r asked input returns (BookRefused book) = IsBookVerdict input (Refused (refusal_of book)) × HoldsBook (bytes_of input) book
 IsJudged r asked input returns (StageUnknown book name) = IsBookVerdict input (Good (book_of book.book)) × (unknown_in asked (book_of book.book) ≡ Some name.now)
 IsJudged r asked input returns judged =
     (tree : BookTree) × IsBookVerdict input (Good tree) × (unknown_in asked tree ≡ None) × IsJudgedOn r tree returns judged

@@ -1,10 +1,10 @@
 //! What two inputs come to that are read.
 
-ghost use Rattle.std.specs.Prelude.{◌≡◌, ◌+◌, IfErr, IfOk, IfSome, option_map};
+ghost use Rattle.std.specs.Prelude.{◌≡◌, ◌+◌, [], IfErr, IfOk, IfSome, option_map};
 ghost use Rattle.sl_count_calls.specs.Fitting.{FitsJudged};
 ghost use Rattle.sl_count_calls.specs.Judged.{IsCounting, IsJudged, IsJudgedOn};
 ghost use Rattle.sl_count_calls.specs.declared.judged.Judged.TheVariants as judged;
-ghost use Rattle.sl_count_calls.specs.Reading.{ReadsAfter};
+ghost use Rattle.sl_count_calls.specs.Reading.{HasTexts, IsReturnsText, ReadsAfter};
 ghost use Rattle.sl_count_inputs.specs.Failures.{counts, counts_after};
 ghost use Rattle.sl_count_inputs.specs.Reading.{ForKnown, ReadsBook, TakesAtMost, book_failures, book_input};
 ghost use Rattle.sl_count_inputs.specs.declared.limits.TheConstants.{MAX_RETURNS_BYTES};
@@ -52,6 +52,8 @@ fn read_on<'a, S: Source>(
 ) -> Result<Read<'a>, DeskError>
     ensures judged { IfOk result (λ r. IfSome (S.remaining returns.old) (λ bytes. IsJudgedOn records (book_of book.book) bytes r.judged)) }
     ensures fits { IfOk result (λ r. FitsJudged records r.judged) }
+    ensures book { IfOk result (λ r. r.book.items ≡ text.items) }
+    ensures text { IfOk result (λ r. IsReturnsText r.judged (S.remaining returns.old) r.returns.items) }
     ensures failures { counts 0 (S.failed returns.new) 0 0 ≡ counts_after (counts 0 (S.failed returns.old) 0 0) result }
     ensures limited { TakesAtMost (MAX_RETURNS_BYTES + 1) (S.remaining returns.old) (S.remaining returns.new) }
 {
@@ -78,7 +80,9 @@ fn read_on<'a, S: Source>(
 
 // What comes of a rulebook alone: it is refused, or has no stage of the name that is asked for.
 fn alone<'a>(alloc: Global, judged: Judged<'a>, book: Vec<u8>) -> Read<'a>
-    ensures { result.judged ≡ judged.entry }
+    ensures judged { result.judged ≡ judged.entry }
+    ensures book { result.book.items ≡ book.items }
+    ensures returns { result.returns.items ≡ [] }
 {
     Read {
         judged,
@@ -104,6 +108,9 @@ pub fn judge_read<'a, 'b: 'a, B: Source, R: Source>(
     ensures judged { IfOk result (λ read. ForKnown (book_input B.remaining book.old) (R.remaining returns.old) (λ input bytes.
         IsJudged records (option_map (λ name. name.now) stage.entry) input bytes read.judged)) }
     ensures fits { IfOk result (λ read. FitsJudged records read.judged) }
+
+    // The bytes are those that were read of the two.
+    ensures text { IfOk result (HasTexts (book_input B.remaining book.old) (R.remaining returns.old)) }
 
     // No call of a source failed, or that one of which the error speaks.
     ensures failures { counts (book_failures B.failed book.new) (R.failed returns.new) 0 0

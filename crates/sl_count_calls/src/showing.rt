@@ -2,6 +2,7 @@
 
 ghost use Rattle.std.specs.Prelude.{◌⊎◌, ◌≡◌, IfErr, IfOk};
 ghost use Rattle.sl_count_calls.specs.Judged.{IsJudged};
+ghost use Rattle.sl_count_calls.specs.Reading.{HasTexts};
 ghost use Rattle.sl_count_calls.specs.Shows.{IsShownOutput, ReadsBehindShown, status_in};
 ghost use Rattle.sl_count_calls.specs.Suiting.{IsFor};
 ghost use Rattle.sl_count_calls.specs.Views.{IsAnswerOf, records_for, stage_of};
@@ -59,6 +60,9 @@ pub fn show<'a, 'b: 'a, B: Source, R: Source, W: Sink>(
     // What is answered is what the two inputs come to, where their bytes are known.
     ensures judged { IfOk result (λ shown. ForKnown (book_input B.remaining book.old) (R.remaining returns.old) (λ input bytes.
         IsJudged (records_for view.entry) (stage_of view.entry) input bytes shown.read.judged)) }
+
+    // The bytes are those that were read of the two.
+    ensures text { IfOk result (λ shown. HasTexts (book_input B.remaining book.old) (R.remaining returns.old) shown.read) }
 
     // No call of a source or of the sink failed, or that one of which the error speaks.
     ensures failures { counts (book_failures B.failed book.new) (R.failed returns.new) 0 (W.failed out.new)

@@ -3,6 +3,7 @@
 ghost use Rattle.std.specs.Prelude.{◌≡◌, ◌+◌, IfOk, IfSome};
 ghost use Rattle.sl_count_inputs.specs.Failures.{counts, counts_after};
 ghost use Rattle.sl_count_inputs.specs.Reading.{TakesAtMost};
+ghost use Rattle.sl_count_inputs.specs.Texts.{IsReadText};
 ghost use Rattle.sl_count_code_files.specs.CodeFiles.{IsCodeVerdict};
 
 use crate::refusal::CodeRefusal;
@@ -45,6 +46,8 @@ pub struct ReadCode {
 /// `Read` where the source failed, and `NoMemory`.
 pub fn read_code<S: Source>(alloc: Global, source: &mut S) -> Result<ReadCode, DeskError>
     ensures verdict { IfOk result (λ r. IfSome (S.remaining source.old) (λ bytes. IsCodeVerdict bytes r.verdict)) }
+    // The bytes are those that were read.
+    ensures text { IfOk result (λ r. IfSome (S.remaining source.old) (λ bytes. IsReadText MAX_CODE_BYTES bytes r.file.items)) }
     ensures failures { counts 0 0 (S.failed source.new) 0 ≡ counts_after (counts 0 0 (S.failed source.old) 0) result }
     ensures limited { TakesAtMost (MAX_CODE_BYTES + 1) (S.remaining source.old) (S.remaining source.new) }
 {

@@ -5,6 +5,8 @@ pub mod Refusals
 pub mod Library
 pub mod Books
 pub mod Judging
+pub mod Texts
+pub mod Holding
 pub mod Returns
 pub mod StageNames
 pub mod Reading

@@ -4,8 +4,10 @@ ghost use Rattle.std.specs.Prelude.{◌≡◌, ◌+◌, length, IfOk, IfSome};
 ghost use Rattle.sl_laws.specs.Books.{law_text};
 ghost use Rattle.sl_count_inputs.specs.Failures.{counts, counts_after};
 ghost use Rattle.sl_count_inputs.specs.Reading.{book_input, book_failures, ReadsBook, TakesAtMost};
-ghost use Rattle.sl_count_inputs.specs.Books.{IsBookVerdict, IsLawVerdict, IsTextVerdict};
+ghost use Rattle.sl_count_inputs.specs.Books.{IsBookVerdict, IsLawVerdict, IsTextVerdict, library};
+ghost use Rattle.sl_count_inputs.specs.Holding.{HoldsBook, IfRefused};
 ghost use Rattle.sl_count_inputs.specs.Judging.{input_of, tree_verdict};
+ghost use Rattle.sl_count_inputs.specs.Texts.{IsBookText, IsReadText, bytes_of};
 
 use crate::input::{Bytes, read_all};
 use crate::limits::MAX_BOOK_BYTES;
@@ -29,7 +31,9 @@ pub enum BookText<'a> {
 
 impl<'a> BookText<'a> {
     /// The bytes of its text; none where the library has no rulebook of that name.
-    pub fn bytes(self) -> &'a [u8] {
+    pub fn bytes(self) -> &'a [u8]
+        ensures { result.now ≡ bytes_of (input_of self.entry) }
+    {
         match self {
             BookText::Library(name) => law(name).unwrap_or("").as_bytes(),
             BookText::Text(text) => text,
@@ -42,7 +46,8 @@ pub(crate) fn judge_text<'a>(
     alloc: Global,
     text: &[u8],
 ) -> Result<Verdict<CheckedBook, RefusedBook<'a>>, NoMemory>
-    ensures { IfOk result (λ v. IsTextVerdict text.now (tree_verdict v)) }
+    ensures verdict { IfOk result (λ v. IsTextVerdict text.now (tree_verdict v)) }
+    ensures holds { IfOk result (λ v. IfRefused v (HoldsBook text.now)) }
 {
     if text.len() > MAX_BOOK_BYTES {
         return Ok(Verdict::Refused(RefusedBook::TooLong));
@@ -68,7 +73,8 @@ pub(crate) fn judge_law<'a>(
     alloc: Global,
     name: &'a str,
 ) -> Result<Verdict<CheckedBook, RefusedBook<'a>>, NoMemory>
-    ensures { IfOk result (λ v. IsLawVerdict name.now (law_text name.now) (tree_verdict v)) }
+    ensures verdict { IfOk result (λ v. IsLawVerdict name.now (law_text name.now) (tree_verdict v)) }
+    ensures holds { IfOk result (λ v. IfRefused v (HoldsBook (bytes_of (library name.now)))) }
 {
     match law(name) {
         Some(text) => judge_text(alloc, text.as_bytes()),
@@ -86,6 +92,8 @@ pub struct ReadBook<'a> {
 // Reads the text of a rulebook and judges it.
 fn read_text<'a, S: Source>(alloc: Global, reader: &mut S) -> Result<ReadBook<'a>, DeskError>
     ensures verdict { IfOk result (λ r. IfSome (S.remaining reader.old) (λ bytes. IsTextVerdict bytes (tree_verdict r.verdict))) }
+    ensures holds { IfOk result (λ r. IfSome (S.remaining reader.old) (λ bytes. IfRefused r.verdict (HoldsBook bytes))) }
+    ensures text { IfOk result (λ r. IfSome (S.remaining reader.old) (λ bytes. IsReadText MAX_BOOK_BYTES bytes r.text.items)) }
     ensures failures { counts (S.failed reader.new) 0 0 0 ≡ counts_after (counts (S.failed reader.old) 0 0 0) result }
     ensures limited { TakesAtMost (MAX_BOOK_BYTES + 1) (S.remaining reader.old) (S.remaining reader.new) }
 {
@@ -106,7 +114,9 @@ pub fn judge_book<'a>(
     alloc: Global,
     book: BookText<'a>,
 ) -> Result<Verdict<CheckedBook, RefusedBook<'a>>, NoMemory>
-    ensures { IfOk result (λ v. IsBookVerdict (input_of book.entry) (tree_verdict v)) }
+    ensures verdict { IfOk result (λ v. IsBookVerdict (input_of book.entry) (tree_verdict v)) }
+    // With a refusal stands what was read of the rulebook until then.
+    ensures holds { IfOk result (λ v. IfRefused v (HoldsBook (bytes_of (input_of book.entry)))) }
 {
     match book {
         BookText::Library(name) => judge_law(alloc, name),
@@ -124,6 +134,9 @@ pub fn read_book<'a, S: Source>(
     source: &mut BookSource<'a, S>,
 ) -> Result<ReadBook<'a>, DeskError>
     ensures verdict { IfOk result (λ r. IfSome (book_input S.remaining source.old) (λ input. IsBookVerdict input (tree_verdict r.verdict))) }
+    // With a refusal stands what was read of the rulebook until then, and the bytes are those that were read.
+    ensures holds { IfOk result (λ r. IfSome (book_input S.remaining source.old) (λ input. IfRefused r.verdict (HoldsBook (bytes_of input)))) }
+    ensures text { IfOk result (λ r. IfSome (book_input S.remaining source.old) (λ input. IsBookText input r.text.items)) }
     ensures failures { counts (book_failures S.failed source.new) 0 0 0 ≡ counts_after (counts (book_failures S.failed source.old) 0 0 0) result }
     ensures source { ReadsBook S.remaining source.old source.new }
 {

@@ -1,7 +1,8 @@
 //! The inputs of the calls, and where they write: readers and writers of bytes, and what bytes come to as a rulebook or as returns.
 //!
 //! Stands on `sl_count_texts`, `sl_returns`, `sl_check`, `sl_parse` and `sl_laws`; used by the rooms count, report, terminal and test. Proved: what
-//! bytes come to, which input failed, and that a text is written whole or a prefix of it.
+//! bytes come to, with what was read of a refused input, that the bytes handed on are those that were read, which input failed, and that a text is
+//! written whole or a prefix of it.
 //!
 //! Where an error is `NoMemory` alone, memory ran out, and nothing else is wrong.
 #![tactic(auto)]

@@ -2,9 +2,11 @@
 
 ghost use Rattle.std.specs.Prelude.{◌≡◌, ◌+◌, IfOk, IfSome};
 ghost use Rattle.sl_count_inputs.specs.Failures.{counts, counts_after};
+ghost use Rattle.sl_count_inputs.specs.Holding.{HoldsReturns, IfRefused};
 ghost use Rattle.sl_count_inputs.specs.Judging.{election_verdict};
 ghost use Rattle.sl_count_inputs.specs.Reading.{TakesAtMost};
 ghost use Rattle.sl_count_inputs.specs.Returns.{IsReturnsVerdict};
+ghost use Rattle.sl_count_inputs.specs.Texts.{IsReadText};
 
 use crate::input::{Bytes, read_all};
 use crate::limits::MAX_RETURNS_BYTES;
@@ -22,7 +24,9 @@ pub fn judge_returns(
     alloc: Global,
     bytes: &[u8],
 ) -> Result<Verdict<Returns, RefusedElection>, NoMemory>
-    ensures { IfOk result (λ v. IsReturnsVerdict bytes.now (election_verdict v)) }
+    ensures verdict { IfOk result (λ v. IsReturnsVerdict bytes.now (election_verdict v)) }
+    // With a refusal stand the record that is refused and the further ones.
+    ensures holds { IfOk result (λ v. IfRefused v (HoldsReturns bytes.now)) }
 {
     if bytes.len() > MAX_RETURNS_BYTES {
         return Ok(Verdict::Refused(RefusedElection::TooLong));
@@ -48,6 +52,9 @@ pub struct ReadReturns {
 /// `Read` where the source failed, and `NoMemory`.
 pub fn read_election<S: Source>(alloc: Global, source: &mut S) -> Result<ReadReturns, DeskError>
     ensures verdict { IfOk result (λ r. IfSome (S.remaining source.old) (λ bytes. IsReturnsVerdict bytes (election_verdict r.verdict))) }
+    // With a refusal stand the record that is refused and the further ones, and the bytes are those that were read.
+    ensures holds { IfOk result (λ r. IfSome (S.remaining source.old) (λ bytes. IfRefused r.verdict (HoldsReturns bytes))) }
+    ensures text { IfOk result (λ r. IfSome (S.remaining source.old) (λ bytes. IsReadText MAX_RETURNS_BYTES bytes r.text.items)) }
     ensures failures { counts 0 (S.failed source.new) 0 0 ≡ counts_after (counts 0 (S.failed source.old) 0 0) result }
     ensures limited { TakesAtMost (MAX_RETURNS_BYTES + 1) (S.remaining source.old) (S.remaining source.new) }
 {

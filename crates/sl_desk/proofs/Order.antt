@@ -1,12 +1,12 @@
 -- The code file is judged before the returns are read.
-use Rattle.std.proofs.Common.{◌≡◌, ℕ, ◌+◌, List, Option, Some, None, IfSome, IfOk, Result, Ok, Err, length, subst}
+use Rattle.std.proofs.Common.{◌≡◌, ℕ, ◌+◌, List, Option, Some, None, IfSome, IfOk, Result, Ok, Err, length, subst, sym}
 use Rattle.sl_count_code_files.specs.CodeFiles.{IsCodeVerdict, code_line}
 use Rattle.sl_count_code_files.specs.declared.refusal.CodeRefusal.{CodeRefusal}
 use Rattle.sl_count_calls.proofs.Order.{reads_after}
 use Rattle.sl_count_calls.specs.declared.answer.Answer.{Answer}
 use Rattle.sl_desk.proofs.RunOutputs.{run_output}
 use Rattle.sl_desk.specs.Endings.{IsEndingOutput}
-use Rattle.sl_desk.specs.JudgedRuns.{IsJudged, IsJudgedOn, IsRunAnswer}
+use Rattle.sl_desk.specs.JudgedRuns.{HasRunTexts, IsJudged, IsJudgedOn, IsReturnsText, IsRunAnswer}
 use Rattle.sl_desk.specs.Running.{IsNoGoodCode, IsRunCode, ReadsBehindCode}
 use Rattle.sl_desk.specs.declared.calls.run.JudgedRun.TheVariants as judged
 use Rattle.sl_desk.specs.declared.calls.run.JudgedRun.{JudgedRun}
@@ -15,7 +15,8 @@ use Rattle.sl_desk.specs.declared.calls.run.Run.{Run}
 use Rattle.sl_count_inputs.specs.Failures.{counts, counts_after}
 use Rattle.sl_count_inputs.specs.Reading.{ForKnown, TakesAtMost}
 use Rattle.sl_count_inputs.specs.Returns.{IsReturnsVerdict, returns_line}
-use Rattle.sl_count_inputs.specs.declared.limits.TheConstants.{MAX_RETURNS_BYTES}
+use Rattle.sl_count_inputs.specs.Texts.{IsReadText}
+use Rattle.sl_count_inputs.specs.declared.limits.TheConstants.{MAX_CODE_BYTES, MAX_RETURNS_BYTES}
 use Rattle.sl_count_inputs.specs.declared.refusal.ReturnsRefusal.{ReturnsRefusal}
 use Rattle.sl_count_inputs.specs.declared.status.DeskError.TheVariants as fault
 use Rattle.sl_count_inputs.specs.declared.status.DeskError.{DeskError}
@@ -49,6 +50,15 @@ judged_known c (Some file) (Some bytes) (Ok read) good on = go read.judged on
     go (judged.CodeRefused why) on = absurd on
     go (judged.ReturnsRefused why) on = (c, good, on)
     go (judged.Ran run) on = (c, good, on)
+
+-- the texts of both
+pub has_texts : {E : Type 0} (code returns : Option (List ℕ)) (file : List ℕ) (result : Result ReadRun E) → IfSome code (λ bytes. IsReadText MAX_CODE_BYTES bytes file)
+    → IfOk result (λ read. read.file.items ≡ file) → IfOk result (λ read. IsReturnsText read.judged returns read.returns.items) → IfOk result (HasRunTexts code returns)
+has_texts code returns file (Err e) of_code same of_returns = tt
+has_texts code returns file (Ok read) of_code same of_returns = record {
+  file = subst (λ (t : List ℕ). IfSome code (λ bytes. IsReadText MAX_CODE_BYTES bytes t)) (sym same) of_code;
+  returns = of_returns;
+}
 
 -- ---- what is written
 

@@ -1,6 +1,7 @@
 pub mod Overtaking
 pub mod Gains
 pub mod Missing
+pub mod LeastRival
 pub mod Claimants
 pub mod Units
 pub mod Shortest

@@ -24,4 +24,4 @@ pub use limits::are_within;
 pub use minima::is_allocation_with_minima;
 pub use spare::votes_to_spare;
 pub use swings::{is_swing_within, swing};
-pub use votes::{votes_missing, votes_missing_with_minima};
+pub use votes::{votes_missing, votes_missing_by, votes_missing_with_minima};

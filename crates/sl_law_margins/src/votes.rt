@@ -1,8 +1,10 @@
 //! The votes that an entry lacks for one more seat.
 
-ghost use Rattle.std.specs.Prelude.{◌≡◌, ◌^◌, ◌<◌, ◌≤◌, ◌↔◌, None, All, MatchOption, length, sum, slice_index};
+ghost use Rattle.std.specs.Prelude.{◌≡◌, ◌≢◌, ◌^◌, ◌<◌, ◌≤◌, ◌↔◌, None, All, MatchOption, length, sum, slice_index};
+ghost use Rattle.sl_base_quotients.specs.Bounds.{IsLast};
 ghost use Rattle.sl_base_quotients.specs.Quotient.{quotient};
 ghost use Rattle.sl_law_meaning.specs.methods.Allocations.{IsDivisorAllocation};
+ghost use Rattle.sl_law_meaning.specs.methods.Ties.{Lists};
 ghost use Rattle.sl_law_margins.specs.MissingVotes.{IsAllocation, AreMissing, AreMissingWith, AreOthersSafe, AreOthersSafeWith};
 ghost use Rattle.sl_law_margins.specs.inner.Needed.{power_of, IsLeast, IsAbove, IsNeeded, lesser};
 
@@ -119,4 +121,53 @@ pub fn votes_missing(method: Divisor, weights: &[u64], seats: &[u32], entry: usi
     ensures none { (result ≡ None) ↔ AreOthersSafe method seats.now entry }
 {
     votes_missing_with_minima(method, weights, &[], seats, entry)
+}
+
+// The votes that an entry lacks for one more seat, by another entry that won the last seat.
+fn votes_missing_over(
+    method: Divisor,
+    weights: &[u64],
+    seats: &[u32],
+    other: usize,
+    entry: usize,
+) -> Option<u64>
+    requires weights { All (λ v. v ≤ MAX_WEIGHT) weights.now }
+    requires seats { All (λ s. s ≤ MAX_SEATS) seats.now }
+    requires allocation { IsAllocation method weights.now seats.now }
+    requires entry { entry < length weights.now }
+    requires other { other ≢ entry }
+    requires last { IsLast method weights.now seats.now other }
+    ensures missing { AreMissing method weights.now seats.now entry result }
+    ensures none { (result ≡ None) ↔ AreOthersSafe method seats.now entry }
+{
+    let needed = weight_above(method, seats[entry], weights[other], seats[other] - 1)?;
+    Some(needed - weights[entry])
+}
+
+/// The votes that an entry lacks for one more seat, as `votes_missing` tells them, by the entries that won the last seat: but for one that alone won
+/// it, as fast for many entries as for few.
+pub fn votes_missing_by(
+    method: Divisor,
+    weights: &[u64],
+    seats: &[u32],
+    last: &[usize],
+    entry: usize,
+) -> Option<u64>
+    requires weights { All (λ v. v ≤ MAX_WEIGHT) weights.now }
+    requires seats { All (λ s. s ≤ MAX_SEATS) seats.now }
+    requires allocation { IsAllocation method weights.now seats.now }
+    requires entry { entry < length weights.now }
+    requires last { Lists (IsLast method weights.now seats.now) last.now }
+    ensures missing { AreMissing method weights.now seats.now entry result }
+    ensures none { (result ≡ None) ↔ AreOthersSafe method seats.now entry }
+{
+    if last.is_empty() {
+        return None;
+    }
+    for other in last {
+        if *other != entry {
+            return votes_missing_over(method, weights, seats, *other, entry);
+        }
+    }
+    votes_missing(method, weights, seats, entry)
 }

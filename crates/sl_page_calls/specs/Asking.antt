@@ -1,5 +1,5 @@
 -- What is handed over of words and files (docs/page.md, docs/library.md): the reply to them.
-use Rattle.std.specs.Prelude.{Any, IsUtf8, List, None, Option, Result, Some, [], codes, map, ◌∷◌, ◌≡◌, ◌⊎◌, ℕ}
+use Rattle.std.specs.Prelude.{Any, IsUtf8, List, None, Option, Some, [], codes, map, ◌∷◌, ◌≡◌, ◌⊎◌, ℕ}
 use Rattle.sl_explain_texts.specs.declared.code.FaultCode.{FaultCode}
 use Rattle.sl_explain_texts.specs.declared.language.Language.TheVariants.{English}
 use Rattle.sl_explain_texts.specs.declared.language.Language.{Language}
@@ -13,8 +13,6 @@ use Rattle.sl_terminal_commands.specs.declared.reply.Made.{Made}
 use Rattle.sl_terminal_commands.specs.declared.reply.Reply.{Reply}
 use Rattle.sl_terminal_outside.specs.Shelves.{bytes_at}
 use Rattle.sl_terminal_outside.specs.declared.shelf.File.{File}
-use Rattle.sl_terminal_words.specs.declared.answers.Answer.{Answer}
-use Rattle.sl_terminal_words.specs.declared.command_line.Asked.{Asked}
 
 -- the name under which the program is called, and the words that are given behind it
 abbrev pub program : List ℕ
@@ -53,7 +51,6 @@ pub record IsUnread (h : Handed) : Type 0 where
   pub made : h.made.now ≡ []
 
 -- the reply to the words, from the files, in English unless the words say otherwise; or where one of them is no text they are refused; or memory ran out
-abbrev pub IsAnswered : (Shape → Heading → Sheets → List ℕ → Type 0) → (Language → List (List ℕ) → Result Asked Answer → Type 0) → (Language → FaultCode → List ℕ → Type 0)
-    → List Word → List File → Handed → Type 0
-IsAnswered IsText IsAsked IsAbout words files h =
-    ((r : Reply) × IsReplyTo IsText IsAsked IsAbout English (bytes_at files) (program ∷ words_given words) r × IsHanded r h) ⊎ ((AreUnread words × IsUnread h) ⊎ IsNothing h)
+abbrev pub IsAnswered : (Shape → Heading → Sheets → List ℕ → Type 0) → (Language → FaultCode → List ℕ → Type 0) → List Word → List File → Handed → Type 0
+IsAnswered IsText IsAbout words files h =
+    ((r : Reply) × IsReplyTo IsText IsAbout English (bytes_at files) (program ∷ words_given words) r × IsHanded r h) ⊎ ((AreUnread words × IsUnread h) ⊎ IsNothing h)

@@ -43,7 +43,7 @@ pub(crate) fn ask<F: Forms, S: Speech>(
     words: &[Word<'_>],
     files: &[File<'_>],
 ) -> Handed
-    ensures { IsAnswered (F.is_text forms.now) (S.is_asked speech.now) (S.is_about speech.now) words.now files.now result }
+    ensures { IsAnswered (F.is_text forms.now) (S.is_about speech.now) words.now files.now result }
 {
     match words_of(alloc, words) {
         Ok(Some(words)) => {

@@ -1,3 +1,3 @@
-pub mod Summed
+pub mod Digested
 pub mod SameLimits
 pub mod OneSet

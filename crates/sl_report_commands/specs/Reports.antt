@@ -1,16 +1,13 @@
--- What `report` and `stages` answer: their status, and their tables (docs/report.md).
-use Rattle.std.specs.Prelude.{Bool, List, None, [], false, true, ◌⊎◌, ◌≡◌, ℕ}
-use Rattle.sl_count_inputs.specs.Books.{BookInput}
-use Rattle.sl_count_inputs.specs.declared.status.Status.TheVariants as status
-use Rattle.sl_count_inputs.specs.declared.status.Status.{Status}
-use Rattle.sl_count_calls.specs.Judged.{IsJudged}
+-- What `report` and `stages` answer: status, line and tables (docs/report.md).
+use Rattle.std.specs.Prelude.{Bool, List, [], false, true, ◌⊎◌, ◌≡◌}
 use Rattle.sl_count_calls.specs.declared.judged.Judged.TheVariants.{BookRefused, Counted, ReturnsRefused, StageUnknown}
 use Rattle.sl_count_calls.specs.declared.judged.Judged.{Judged}
-use Rattle.sl_report_commands.specs.Statuses.{is_stopped, judged_status}
+use Rattle.sl_report_commands.specs.Statuses.{is_stopped, judged_line, judged_status}
 use Rattle.sl_report_forms.specs.Tables.{Table}
+use Rattle.sl_report_tables.specs.Answers.{IsRefusal, tables_of}
 use Rattle.sl_report_tables.specs.Reports.{Shows}
+use Rattle.sl_report_tables.specs.declared.answer.Answer.{Answer}
 use Rattle.sl_report_tables.specs.declared.counts.Show.{Show}
-use Rattle.sl_law_meaning.specs.declared.count.Records.TheVariants.{Kept}
 
 -- the tables that show what inputs come to: those of the count, and none where one of them is refused
 abbrev pub ShowsJudged : Show → Judged → List Table → Type 0
@@ -19,13 +16,13 @@ ShowsJudged show (StageUnknown book name) tables = tables ≡ []
 ShowsJudged show (ReturnsRefused returns) tables = tables ≡ []
 ShowsJudged show (Counted counting) tables = Shows counting.book.book counting.returns show counting.outcome.end tables
 
--- the status and the tables that show it; or of a count whose names are refused the status of a refusal, and no table
-abbrev pub IsShown : Show → (are_refused : Bool) → Judged → Status → List Table → Type 0
-IsShown show are_refused judged ends tables =
-    ((is_stopped are_refused judged ≡ false) × (ends ≡ judged_status judged) × ShowsJudged show judged tables)
-    ⊎ ((is_stopped are_refused judged ≡ true) × (ends ≡ status.Refused) × (tables ≡ []))
+-- the answer that shows it
+pub record AnswersJudged (show : Show) (judged : Judged) (a : Answer) : Type 0 where
+  pub status : a.status ≡ judged_status judged
+  pub line : a.line.items ≡ judged_line judged
+  pub tables : ShowsJudged show judged (tables_of a)
 
--- the status and the tables of a command: those that show what its inputs come to
-abbrev pub IsReport : Show → (are_refused : Bool) → BookInput → List ℕ → Status → List Table → Type 0
-IsReport show are_refused input returns ends tables =
-    (judged : Judged) × IsJudged Kept None input returns judged × IsShown show are_refused judged ends tables
+-- the same; or of a count whose names are refused a refusal
+abbrev pub IsShown : Show → (are_refused : Bool) → Judged → Answer → Type 0
+IsShown show are_refused judged a =
+    ((is_stopped are_refused judged ≡ false) × AnswersJudged show judged a) ⊎ ((is_stopped are_refused judged ≡ true) × IsRefusal a)

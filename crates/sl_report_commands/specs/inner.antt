@@ -1,2 +1,2 @@
 -- Definitions that bodies and proofs alone cite.
-pub mod Answered
+pub mod Digested

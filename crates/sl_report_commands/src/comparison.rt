@@ -1,9 +1,8 @@
 //! The command that shows several rulebooks side by side: `compare`.
 
-ghost use Rattle.std.specs.Prelude.{◌≡◌, IfOk, map};
-ghost use Rattle.sl_count_inputs.specs.declared.status.Status.TheVariants.{Done};
+ghost use Rattle.std.specs.Prelude.{◌≡◌, IfOk};
 ghost use Rattle.sl_report_commands.specs.Compared.{IsComparedTo, ShowsCompared, counted_of, fault_of};
-ghost use Rattle.sl_report_forms.specs.Tables.{table_of};
+ghost use Rattle.sl_report_tables.specs.Answers.{HasTables};
 
 use sl_base_quotients::NoMemory;
 use sl_count_calls::{End, Records, outcome_of};
@@ -54,8 +53,7 @@ pub fn compare_judged(
     full: &FullNames,
     language: Language,
 ) -> Result<Answer, NoMemory>
-    ensures status { IfOk result (λ a. a.status ≡ Done) }
-    ensures shows { IfOk result (λ a. ShowsCompared returns.now books.items (map table_of a.sheets.items)) }
+    ensures { IfOk result (HasTables (ShowsCompared returns.now books.items)) }
 {
     let mut all: Vec<Judged> = Vec::new(alloc);
     for compared in books {

@@ -1,8 +1,8 @@
 //! The commands that report, from what their inputs come to: of one count, of all stages, of several rulebooks side by side, and of the totals of returns.
 //! Each input is judged once, and each book is run once.
 //!
-//! Stands on `sl_report_tables` and `sl_explain_calls`; used by the room terminal. Proved: the status and the tables are those of what the inputs come to, and
-//! the text is that of just this answer.
+//! Stands on `sl_report_tables` and `sl_explain_calls`; used by the room terminal. Proved: the status, the line and the tables are those of what the inputs come
+//! to, and the text is that of just this answer, in JSON with the digests of the inputs.
 //!
 //! Where an error is `NoMemory` alone, memory ran out, and nothing else is wrong.
 #![tactic(auto)]
@@ -28,6 +28,6 @@ pub use sl_report_tables::{
 };
 pub use sums::{BookVerdict, ReturnsVerdict, total_judged};
 pub use written::{
-    Style, Texts, Written, bytes_of, digested_book, digested_returns, failed_text, push_digested,
-    refusal_of, text_by, told_of,
+    Style, Texts, Written, digested_book, digested_returns, failed_text, push_digested, refusal_of,
+    text_by, told_of,
 };

@@ -1,12 +1,11 @@
 //! The command that adds up returns: `totals`.
 
-ghost use Rattle.std.specs.Prelude.{◌≡◌, IfOk, codes, is_err, map, option_map};
-ghost use Rattle.sl_report_commands.specs.Digests.{digests, totals_digests};
-ghost use Rattle.sl_report_commands.specs.Summaries.{IsRefusal};
+ghost use Rattle.std.specs.Prelude.{◌≡◌, IfOk, codes, is_err, option_map};
+ghost use Rattle.sl_report_commands.specs.Digests.{digests};
+ghost use Rattle.sl_report_commands.specs.Summaries.{IsNamedTotals, IsTotalsBy, IsTotalsOn};
 ghost use Rattle.sl_report_commands.specs.Written.{IsWritten, json_digests, returns_subject, totals_subject};
 ghost use Rattle.sl_explain_calls.specs.Codes.{subject_of};
-ghost use Rattle.sl_report_commands.specs.inner.Answered.{IsNamedTotals, IsTotalsBy, IsTotalsOn};
-ghost use Rattle.sl_report_forms.specs.Tables.{table_of};
+ghost use Rattle.sl_report_commands.specs.inner.Digested.{totals_digested};
 
 use crate::counts::again;
 use crate::forms::Forms;
@@ -35,7 +34,7 @@ fn named_totals(
     names: &Result<FullNames, Answer>,
     language: Language,
 ) -> Result<Answer, NoMemory>
-    ensures { IfOk result (λ a. IsNamedTotals (is_err names.now) (option_map (λ b. b.now) book.entry) returns.now a.status (map table_of a.sheets.items)) }
+    ensures { IfOk result (IsNamedTotals (is_err names.now) (option_map (λ b. b.now) book.entry) returns.now) }
 {
     match names {
         Ok(full) => totals_answer(alloc, book, returns, full, language),
@@ -52,7 +51,7 @@ fn totals_on<'a>(
     names: &Result<FullNames, Answer>,
     language: Language,
 ) -> Result<Reasoned<'a>, NoMemory>
-    ensures totals { IfOk result (λ r. IsTotalsOn (is_err names.now) (option_map (λ b. b.now) book.entry) returns.now r.answer.status (map table_of r.answer.sheets.items)) }
+    ensures totals { IfOk result (λ r. IsTotalsOn (is_err names.now) (option_map (λ b. b.now) book.entry) returns.now r.answer) }
     ensures told { IfOk result (λ r. option_map (λ r. subject_of r.explained) r.reason ≡ returns_subject returns.now) }
 {
     match returns {
@@ -73,7 +72,7 @@ fn totals_by<'a>(
     names: &Result<FullNames, Answer>,
     language: Language,
 ) -> Result<Reasoned<'a>, NoMemory>
-    ensures totals { IfOk result (λ r. IsTotalsBy (is_err names.now) (option_map (λ v. v.now) book.entry) returns.now r.answer.status (map table_of r.answer.sheets.items)) }
+    ensures totals { IfOk result (λ r. IsTotalsBy (is_err names.now) (option_map (λ v. v.now) book.entry) returns.now r.answer) }
     ensures told { IfOk result (λ r. option_map (λ r. subject_of r.explained) r.reason ≡ totals_subject (option_map (λ v. v.now) book.entry) returns.now) }
 {
     match book {
@@ -101,7 +100,7 @@ fn digested_totals(
     returns: &ReturnsVerdict,
     texts: Texts<'_>,
 ) -> Result<Vec<DigestedInput>, NoMemory>
-    ensures { IfOk result (λ inputs. digests inputs.items ≡ totals_digests (option_map (λ v. v.now) book.entry) returns.now texts.entry.book.now texts.entry.returns.now) }
+    ensures { IfOk result (λ inputs. digests inputs.items ≡ totals_digested (option_map (λ v. v.now) book.entry) returns.now texts.entry.book.now texts.entry.returns.now) }
 {
     let mut inputs = Vec::new(alloc);
     if let Some(verdict) = book {
@@ -125,7 +124,7 @@ fn digested_in(
     texts: Texts<'_>,
     style: Style,
 ) -> Result<Vec<DigestedInput>, NoMemory>
-    ensures { IfOk result (λ inputs. digests inputs.items ≡ json_digests style (totals_digests (option_map (λ v. v.now) book.entry) returns.now texts.entry.book.now texts.entry.returns.now)) }
+    ensures { IfOk result (λ inputs. digests inputs.items ≡ json_digests style (totals_digested (option_map (λ v. v.now) book.entry) returns.now texts.entry.book.now texts.entry.returns.now)) }
 {
     if style.is_json() {
         digested_totals(alloc, book, returns, texts)
@@ -145,9 +144,9 @@ pub fn total_judged<F: Forms>(
     texts: Texts<'_>,
     style: Style,
 ) -> Result<Written, NoMemory>
-    ensures totals { IfOk result (λ w. IsTotalsBy (is_err names.now) (option_map (λ v. v.now) book.entry) returns.now w.answer.status (map table_of w.answer.sheets.items)) }
+    ensures totals { IfOk result (λ w. IsTotalsBy (is_err names.now) (option_map (λ v. v.now) book.entry) returns.now w.answer) }
     ensures text { IfOk result (λ w. IsWritten (F.is_text forms.now) (codes "totals") style
-        (json_digests style (totals_digests (option_map (λ v. v.now) book.entry) returns.now texts.entry.book.now texts.entry.returns.now)) w.answer w.text.items) }
+        (json_digests style (totals_digested (option_map (λ v. v.now) book.entry) returns.now texts.entry.book.now texts.entry.returns.now)) w.answer w.text.items) }
     ensures told { IfOk result (λ w. option_map subject_of w.told ≡ totals_subject (option_map (λ v. v.now) book.entry) returns.now) }
 {
     let inputs = digested_in(alloc, book, returns, texts, style)?;

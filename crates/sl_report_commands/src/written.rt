@@ -1,21 +1,22 @@
 //! The texts of answers: in JSON with the digests of the inputs, and with the explanation of why there is no table.
 
-ghost use Rattle.std.specs.Prelude.{◌≡◌, ◌++◌, [], IfOk, OnOk, Some, map, option_map};
+ghost use Rattle.std.specs.Prelude.{◌≡◌, ◌++◌, IfOk, OnOk, Some, option_map};
 ghost use Rattle.sl_explain_calls.specs.Codes.{book_code, election_code, judged_subject, subject, subject_of};
+ghost use Rattle.sl_count_inputs.specs.Books.{book_line};
+ghost use Rattle.sl_count_inputs.specs.Judging.{refusal_of as why_of, returns_refusal_of};
+ghost use Rattle.sl_count_inputs.specs.Returns.{returns_line};
 ghost use Rattle.sl_count_inputs.specs.declared.status.Input.TheVariants as input;
-ghost use Rattle.sl_count_inputs.specs.Judging.{input_of};
-ghost use Rattle.sl_report_commands.specs.Digests.{book_digest, bytes_of, count_digests, digest_of, digests, is_json, refusal_of, returns_digest, text_of};
-ghost use Rattle.sl_report_commands.specs.Summaries.{IsRefusal};
+ghost use Rattle.sl_report_commands.specs.Digests.{digests, is_json};
 ghost use Rattle.sl_report_commands.specs.Written.{IsWritten, command_of, json_digests};
-ghost use Rattle.sl_report_forms.specs.Tables.{table_of};
+ghost use Rattle.sl_report_commands.specs.inner.Digested.{IsCountWritten, book_digested, count_digested, digest_of, refusal_of, returns_digested, text_of};
+ghost use Rattle.sl_report_tables.specs.Answers.{IsRefusedBy};
 
 use crate::forms::Forms;
 use sl_base_quotients::NoMemory;
 use sl_count_calls::Judged;
-use sl_count_inputs::{BookText, DeskError, Input, RefusedBook, RefusedElection, Verdict};
+use sl_count_inputs::{DeskError, Input, RefusedBook, RefusedElection, Verdict};
 use sl_explain_calls::{Explained, explain_book, explain_election, explain_judged};
 use sl_explain_texts::{Explanation, Language};
-use sl_laws::law;
 use sl_report_forms::{DigestedInput, Heading, Told, json_text};
 use sl_report_tables::{Answer, Shape, Show};
 use std::alloc::Global;
@@ -67,16 +68,6 @@ impl<'a> Texts<'a> {
     }
 }
 
-/// The bytes of a rulebook: none of a name that the library does not have.
-pub fn bytes_of(book: BookText<'_>) -> &[u8]
-    ensures { result.now ≡ bytes_of (input_of book.entry) }
-{
-    match book {
-        BookText::Library(name) => law(name).unwrap_or("").as_bytes(),
-        BookText::Text(text) => text,
-    }
-}
-
 /// Why a verdict refuses, if it does.
 pub fn refusal_of<T, R>(verdict: &Verdict<T, R>) -> Option<&R>
     ensures { option_map (λ r. r.now) result ≡ refusal_of verdict.now }
@@ -93,7 +84,7 @@ pub fn digested_book(
     bytes: &[u8],
     refused: Option<&RefusedBook<'_>>,
 ) -> Option<DigestedInput>
-    ensures { digest_of result ≡ book_digest (option_map (λ r. r.now) refused.entry) bytes.now }
+    ensures { digest_of result ≡ book_digested (option_map (λ r. r.now) refused.entry) bytes.now }
 {
     match refused {
         Some(RefusedBook::TooLong | RefusedBook::UnknownStatute(_)) => None,
@@ -103,7 +94,7 @@ pub fn digested_book(
 
 /// The digest of returns, or `None` where they have no bytes: they are too long.
 pub fn digested_returns(bytes: &[u8], refused: Option<&RefusedElection>) -> Option<DigestedInput>
-    ensures { digest_of result ≡ returns_digest (option_map (λ r. r.now) refused.entry) bytes.now }
+    ensures { digest_of result ≡ returns_digested (option_map (λ r. r.now) refused.entry) bytes.now }
 {
     match refused {
         Some(RefusedElection::TooLong) => None,
@@ -132,7 +123,7 @@ fn digested(
     judged: &Judged<'_>,
     texts: Texts<'_>,
 ) -> Result<Vec<DigestedInput>, NoMemory>
-    ensures { IfOk result (λ inputs. digests inputs.items ≡ count_digests judged.now texts.entry.book.now texts.entry.returns.now) }
+    ensures { IfOk result (λ inputs. digests inputs.items ≡ count_digested judged.now texts.entry.book.now texts.entry.returns.now) }
 {
     let (book, returns) = match judged {
         Judged::BookRefused(refused) => (digested_book(None, texts.book, Some(refused)), None),
@@ -174,7 +165,7 @@ impl<'a> Reasoned<'a> {
         explained: Explained,
         bytes: &'a [u8],
     ) -> Reasoned<'a>
-        ensures refused { IsRefusal result.answer.status (map table_of result.answer.sheets.items) }
+        ensures refused { IsRefusedBy line.items result.answer }
         ensures told { option_map (λ r. subject_of r.explained) result.reason ≡ Some (subject_of explained) }
     {
         Reasoned {
@@ -190,7 +181,7 @@ impl<'a> Reasoned<'a> {
         bytes: &'a [u8],
         refused: &RefusedBook<'_>,
     ) -> Result<Reasoned<'a>, NoMemory>
-        ensures refused { IfOk result (λ r. IsRefusal r.answer.status (map table_of r.answer.sheets.items)) }
+        ensures refused { IfOk result (λ r. IsRefusedBy (book_line (why_of refused.now)) r.answer) }
         ensures told { IfOk result (λ r. option_map (λ r. subject_of r.explained) r.reason ≡ Some (subject input.Book (book_code refused.now))) }
     {
         let explained = explain_book(alloc, language, bytes, refused)?;
@@ -205,7 +196,7 @@ impl<'a> Reasoned<'a> {
         bytes: &'a [u8],
         refused: &RefusedElection,
     ) -> Result<Reasoned<'a>, NoMemory>
-        ensures refused { IfOk result (λ r. IsRefusal r.answer.status (map table_of r.answer.sheets.items)) }
+        ensures refused { IfOk result (λ r. IsRefusedBy (returns_line (returns_refusal_of refused.now)) r.answer) }
         ensures told { IfOk result (λ r. option_map (λ r. subject_of r.explained) r.reason ≡ Some (subject input.Returns (election_code refused.now))) }
     {
         let explained = explain_election(alloc, language, bytes, refused)?;
@@ -359,7 +350,7 @@ fn digested_in(
     texts: Texts<'_>,
     style: Style,
 ) -> Result<Vec<DigestedInput>, NoMemory>
-    ensures { IfOk result (λ inputs. digests inputs.items ≡ json_digests style (count_digests judged.now texts.entry.book.now texts.entry.returns.now)) }
+    ensures { IfOk result (λ inputs. digests inputs.items ≡ json_digests style (count_digested judged.now texts.entry.book.now texts.entry.returns.now)) }
 {
     if style.is_json() {
         digested(alloc, judged, texts)
@@ -387,8 +378,7 @@ fn shown_text<F: Forms>(
     texts: Texts<'_>,
     style: Style,
 ) -> Result<Vec<u8>, NoMemory>
-    ensures { IfOk result (λ text. IsWritten (F.is_text forms.now) (command_of show.entry) style
-        (json_digests style (count_digests judged.now texts.entry.book.now texts.entry.returns.now)) answer.now text.items) }
+    ensures { IfOk result (λ text. IsCountWritten (F.is_text forms.now) show.entry style judged.now texts.entry.book.now texts.entry.returns.now answer.now text.items) }
 {
     let inputs = digested_in(alloc, judged, texts, style)?;
     let told = told_in(explained, texts);
@@ -418,8 +408,7 @@ pub(crate) fn with_text<F: Forms>(
     style: Style,
 ) -> Result<Written, NoMemory>
     ensures answer { IfOk result (λ w. w.answer ≡ answer) }
-    ensures text { IfOk result (λ w. IsWritten (F.is_text forms.now) (command_of show.entry) style
-        (json_digests style (count_digests judged.now texts.entry.book.now texts.entry.returns.now)) w.answer w.text.items) }
+    ensures text { IfOk result (λ w. IsCountWritten (F.is_text forms.now) show.entry style judged.now texts.entry.book.now texts.entry.returns.now w.answer w.text.items) }
     ensures told { IfOk result (λ w. w.told ≡ told) }
 {
     match shown_text(forms, alloc, show, &answer, &told, judged, texts, style) {
@@ -439,8 +428,7 @@ pub(crate) fn with_reason<F: Forms>(
     style: Style,
 ) -> Result<Written, NoMemory>
     ensures answer { IfOk result (λ w. w.answer ≡ answer) }
-    ensures text { IfOk result (λ w. IsWritten (F.is_text forms.now) (command_of show.entry) style
-        (json_digests style (count_digests judged.now texts.entry.book.now texts.entry.returns.now)) w.answer w.text.items) }
+    ensures text { IfOk result (λ w. IsCountWritten (F.is_text forms.now) show.entry style judged.now texts.entry.book.now texts.entry.returns.now w.answer w.text.items) }
     ensures told { IfOk result (λ w. option_map subject_of w.told ≡ judged_subject judged.now) }
 {
     match explain_judged(alloc, style.language, judged, texts.book, texts.returns) {

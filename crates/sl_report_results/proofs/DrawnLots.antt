@@ -1,19 +1,18 @@
 -- The lot of a stage, one lot more.
-use Rattle.std.proofs.Common.{◌≡◌, ℕ, ◌+◌, Bool, true, false, not, ◌||◌, List, [], ◌∷◌, ◌++◌, Option, Some, None, filter, filter_map, take, refl, sym, ap, subst, ◌∙◌, inl, inr, eqb-true}
+use Rattle.std.proofs.Common.{◌≡◌, ℕ, ◌+◌, ◌<◌, Bool, true, false, not, ◌||◌, List, [], ◌∷◌, ◌++◌, Option, Some, None, filter, filter_map, get_or, length, take, refl, sym, ap, subst, ◌∙◌, inl, inr, eqb-true}
 use Rattle.std.specs.List.{list_any}
 use Rattle.std.specs.Option.{option_to_list}
-use Rattle.std.specs.Prelude.{if◌then◌else◌, nat_eq, option_and_then, position, slice_get}
+use Rattle.std.specs.Prelude.{if◌then◌else◌, nat_eq, slice_get}
 use Rattle.std.specs.Str.{bytes_eq}
 use Rattle.std.proofs.lemmas.Bool.{cases_Bool}
-use Rattle.std.proofs.lemmas.List.{append-nil}
+use Rattle.std.proofs.lemmas.List.{append-nil, take_more}
 use Rattle.std.proofs.lemmas.List.Elements.{filter-append, filter_map-append}
 use Rattle.sl_base_terms.specs.declared.shape.Shape.{Shape}
 use Rattle.sl_law_meaning.specs.declared.fault.Item.{Item}
 use Rattle.sl_law_meaning.specs.declared.election.Lot.{Lot}
 use Rattle.sl_law_meaning.specs.meaning.Lots.{first_mentions, given_entry}
-use Rattle.sl_law_meaning.specs.meaning.Scopes.{same_item}
 use Rattle.sl_report_parties.proofs.Steps.{filter_next}
-use Rattle.sl_report_results.specs.inner.Drawn.{drawn_by, with_first}
+use Rattle.sl_report_results.specs.inner.Drawn.{given_by, with_first}
 
 -- ---- numbers where they stand first
 
@@ -53,47 +52,32 @@ mentions_more : (xs : List ℕ) (n : ℕ) → first_mentions (xs ++ n ∷ []) �
 mentions_more [] n = refl
 mentions_more (x ∷ xs) n = ap (λ ms. x ∷ filter (λ m. not (nat_eq x m)) ms) (mentions_more xs n) ∙ behind_first x n (first_mentions xs)
 
--- ---- a lot more
+-- ---- what lots give, one lot more
 
-module _ (name : List ℕ) (votes : Shape) (items : List Item) where
-  abbrev is_named : Lot → Bool
-  is_named l = bytes_eq name l.stage
+pub given_more : (name : List ℕ) (votes : Shape) (lots : List Lot) (k : ℕ) (l : Lot) (before after : List Item) → slice_get lots k ≡ Some l → before ≡ given_by name votes (take k lots) → after ≡ before ++ given_by name votes (l ∷ []) →
+    after ≡ given_by name votes (take (k + 1) lots)
+given_more name votes lots k l before after there so_far pushed =
+    pushed ∙ ap (λ gs. gs ++ given_by name votes (l ∷ [])) so_far
+    ∙ sym (ap (filter_map (given_entry votes)) (filter_next (λ l. bytes_eq name l.stage) lots k l there)
+    ∙ filter_map-append (given_entry votes) (filter (λ l. bytes_eq name l.stage) (take k lots)) (filter (λ l. bytes_eq name l.stage) (l ∷ [])))
 
-  abbrev number_of : Item → Option ℕ
-  number_of i = position (same_item i) items
+-- ---- what is drawn, one entry more
 
-  abbrev numbers : List Lot → List ℕ
-  numbers lots = filter_map number_of (filter_map (given_entry votes) (filter is_named lots))
+module _ (number : Item → Option ℕ) where
+  of_one : (i : Item) (o : Option ℕ) → number i ≡ o → filter_map number (i ∷ []) ≡ option_to_list o
+  of_one i None at = rw at refl
+  of_one i (Some n) at = rw at refl
 
-  of_entry : (o : Option Item) (l : Lot) → given_entry votes l ≡ o → filter_map number_of (filter_map (given_entry votes) (l ∷ [])) ≡ option_to_list (option_and_then number_of o)
-  of_entry None l is = rw is refl
-  of_entry (Some i) l is = rw is (of_number (number_of i) refl) where
-    of_number : (o : Option ℕ) → number_of i ≡ o → filter_map number_of (i ∷ []) ≡ option_to_list o
-    of_number None at = rw at refl
-    of_number (Some n) at = rw at refl
+  numbers_more : (given : List Item) (k : ℕ) (d : Item) (o : Option ℕ) → k < length given → number (get_or given k d) ≡ o → filter_map number (take (k + 1) given) ≡ filter_map number (take k given) ++ option_to_list o
+  numbers_more given k d o less is =
+      ap (filter_map number) (take_more given k d less) ∙ filter_map-append number (take k given) (get_or given k d ∷ [])
+      ∙ ap (λ ns. filter_map number (take k given) ++ ns) (of_one (get_or given k d) o is)
 
-  -- of one lot
-  numbers_of_one : (l : Lot) → numbers (l ∷ []) ≡ option_to_list (drawn_by name votes items l)
-  numbers_of_one l = elim (cases_Bool (bytes_eq name l.stage)) [
-    | inl t ↦ rw t (of_entry (given_entry votes l) l refl)
-    | inr f ↦ rw f refl
-  ]
+  -- an entry that has a number, and one that has none
+  pub item_more : (given : List Item) (k : ℕ) (d : Item) (n : ℕ) → k < length given → number (get_or given k d) ≡ Some n →
+      first_mentions (filter_map number (take (k + 1) given)) ≡ with_first (first_mentions (filter_map number (take k given))) n
+  item_more given k d n less is = ap first_mentions (numbers_more given k d (Some n) less is) ∙ mentions_more (filter_map number (take k given)) n
 
-  numbers_more : (lots : List Lot) (k : ℕ) (l : Lot) → slice_get lots k ≡ Some l → numbers (take (k + 1) lots) ≡ numbers (take k lots) ++ option_to_list (drawn_by name votes items l)
-  numbers_more lots k l there =
-      ap (λ ls. filter_map number_of (filter_map (given_entry votes) ls)) (filter_next is_named lots k l there)
-      ∙ ap (filter_map number_of) (filter_map-append (given_entry votes) (filter is_named (take k lots)) (filter is_named (l ∷ [])))
-      ∙ filter_map-append number_of (filter_map (given_entry votes) (filter is_named (take k lots))) (filter_map (given_entry votes) (filter is_named (l ∷ [])))
-      ∙ ap (λ ns. numbers (take k lots) ++ ns) (numbers_of_one l)
-
-  -- a lot that draws an item, and one that draws none
-  pub drawn_more : (lots : List Lot) (k : ℕ) (l : Lot) (before after : List ℕ) (n : ℕ) → slice_get lots k ≡ Some l → before ≡ first_mentions (numbers (take k lots)) → drawn_by name votes items l ≡ Some n →
-      after ≡ with_first before n → after ≡ first_mentions (numbers (take (k + 1) lots))
-  drawn_more lots k l before after n there so_far drawn pushed =
-      pushed ∙ ap (λ ms. with_first ms n) so_far ∙ sym (mentions_more (numbers (take k lots)) n)
-      ∙ ap (λ o. first_mentions (numbers (take k lots) ++ option_to_list o)) (sym drawn) ∙ ap first_mentions (sym (numbers_more lots k l there))
-
-  pub none_more : (lots : List Lot) (k : ℕ) (l : Lot) (before : List ℕ) → slice_get lots k ≡ Some l → before ≡ first_mentions (numbers (take k lots)) → drawn_by name votes items l ≡ None →
-      before ≡ first_mentions (numbers (take (k + 1) lots))
-  none_more lots k l before there so_far none =
-      so_far ∙ ap first_mentions (sym (append-nil (numbers (take k lots))) ∙ ap (λ o. numbers (take k lots) ++ option_to_list o) (sym none) ∙ sym (numbers_more lots k l there))
+  pub none_more : (given : List Item) (k : ℕ) (d : Item) → k < length given → number (get_or given k d) ≡ None →
+      first_mentions (filter_map number (take (k + 1) given)) ≡ first_mentions (filter_map number (take k given))
+  none_more given k d less is = ap first_mentions (numbers_more given k d None less is ∙ append-nil (filter_map number (take k given)))

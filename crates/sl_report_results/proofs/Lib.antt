@@ -3,9 +3,10 @@ pub mod ValueSteps
 pub mod Typed
 pub mod Divided
 pub mod Fews
-pub mod OwnSteps
 pub mod ScopeSteps
 pub mod Before
 pub mod Borders
 pub mod DrawnLots
 pub mod Pushed
+pub mod Tabled
+pub mod OwnPlaces

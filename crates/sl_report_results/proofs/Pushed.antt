@@ -1,18 +1,12 @@
 -- One more element of a list that a loop builds.
-use Rattle.std.proofs.Common.{◌≡◌, ℕ, ◌+◌, ◌<◌, ◌≤◌, Bool, List, [], ◌∷◌, ◌++◌, length, get_or, take, filter, map, cond, sym, ap, subst, ◌∙◌}
+use Rattle.std.proofs.Common.{◌≡◌, ℕ, ◌+◌, ◌<◌, Bool, List, [], ◌∷◌, ◌++◌, length, get_or, take, filter, map, sym, ap, subst, ◌∙◌}
 use Rattle.std.proofs.Math.ListN.{get_or-append}
 use Rattle.std.proofs.lemmas.List.{get_or_push, length_push, map_more}
-use Rattle.std.proofs.lemmas.List.Elements.{filter-append, filter_more}
+use Rattle.std.proofs.lemmas.List.Elements.{filter-append}
 use borrow.Author.Count.{below_more}
 
 pub mapped_next : {X Y : Type 0} (xs : List X) (f : X → Y) (i : ℕ) (d : X) (ys zs : List Y) (y : Y) → i < length xs → ys ≡ map f (take i xs) → zs ≡ ys ++ y ∷ [] → y ≡ f (get_or xs i d) → zs ≡ map f (take (i + 1) xs)
 mapped_next xs f i d ys zs y less before grown is = grown ∙ ap (λ v. ys ++ v ∷ []) is ∙ ap (λ b. b ++ f (get_or xs i d) ∷ []) before ∙ sym (map_more f xs i d less)
-
-pub filtered_next : {X : Type 0} (xs : List X) (p : X → Bool) (i : ℕ) (x : X) (ys zs : List X) (b : Bool) → i < length xs → x ≡ get_or xs i x → ys ≡ filter p (take i xs) → zs ≡ ys ++ cond b (x ∷ []) [] → b ≡ p x →
-    zs ≡ filter p (take (i + 1) xs)
-filtered_next xs p i x ys zs b less there before grown is =
-    grown ∙ ap (λ v. ys ++ cond v (x ∷ []) []) is ∙ ap (λ b. b ++ cond (p x) (x ∷ []) []) before
-    ∙ sym (subst (λ v. filter p (take (i + 1) xs) ≡ filter p (take i xs) ++ cond (p v) (v ∷ []) []) (sym there) (filter_more p xs i x less))
 
 pub kept_next : {X Y : Type 0} (xs : List X) (f : X → Y) (p : Y → Bool) (i : ℕ) (d : X) (ys zs : List Y) (y : Y) → i < length xs → ys ≡ filter p (map f (take i xs)) → zs ≡ ys ++ filter p (y ∷ []) → y ≡ f (get_or xs i d) →
     zs ≡ filter p (map f (take (i + 1) xs))

@@ -9,6 +9,7 @@ use Rattle.std.proofs.lemmas.Option.{slice_get-get_or}
 use Rattle.sl_report_parties.proofs.Steps.{filter_next}
 use Rattle.sl_report_results.specs.Places.{IsScope, items_in, scope_at, scope_count}
 use Rattle.sl_report_results.specs.Scopes.{Adds, IsScopeOf, has_entry, scope_entries}
+use Rattle.sl_report_results.specs.inner.Within.{shape_in}
 use Rattle.sl_report_results.specs.declared.columns.Distribution.{Distribution}
 use Rattle.sl_report_results.specs.declared.scopes.Scoped.{Scoped}
 use Rattle.sl_law_meaning.specs.declared.fault.Scope.TheVariants as scope
@@ -18,6 +19,13 @@ use Rattle.sl_law_meaning.specs.returns.Election.{Election, lands_of, parties_of
 use Rattle.sl_law_meaning.proofs.meaning.Members.{all_and_one}
 use Rattle.sl_base_terms.specs.declared.shape.Shape.{Shape}
 use Rattle.sl_base_terms.specs.declared.shape.Shape.TheVariants as shape
+
+-- the entries of the scopes of a stage have one shape
+pub same_shape : (over votes : Shape) (n : ℕ) → shape_in votes (scope_at over 0) ≡ shape_in votes (scope_at over n)
+same_shape shape.One votes n = refl
+same_shape shape.Party votes n = refl
+same_shape shape.Land votes n = refl
+same_shape shape.List votes n = refl
 
 module _ (e : Election) where
   pub scope_within : (over : Shape) (n : ℕ) → n < scope_count e over → IsScope e (scope_at over n)

@@ -1,4 +1,5 @@
 -- What only bodies and proofs cite.
 pub mod Within
+pub mod Tables
 pub mod Common
 pub mod Drawn

@@ -1,6 +1,6 @@
 //! The scopes of a stage of a count.
 
-ghost use Rattle.std.specs.Prelude.{◌≡◌, ◌<◌, ◌&&◌, not, IfOk, OnOk, get_or, length, is_some, sum_by};
+ghost use Rattle.std.specs.Prelude.{◌≡◌, ◌<◌, ◌&&◌, not, IfOk, OnOk, List, get_or, length, is_some, sum_by};
 ghost use Rattle.sl_report_parties.specs.Sums.{capped};
 ghost use Rattle.sl_law_meaning.specs.meaning.Counts.{HoldsStages};
 ghost use Rattle.sl_base_quotients.specs.declared.method.Method.TheVariants as by;
@@ -11,16 +11,20 @@ ghost use Rattle.sl_report_results.specs.StageScopes.{AreStageScopes, name_of};
 ghost use Rattle.sl_law_meaning.specs.book.Books.{book_of};
 ghost use Rattle.sl_law_meaning.specs.book.Trees.{tree_of};
 ghost use Rattle.sl_law_meaning.specs.declared.book.Stage.{Stage};
+ghost use Rattle.sl_law_meaning.specs.declared.table.SeatStep.{SeatStep};
+ghost use Rattle.sl_report_results.specs.inner.Drawn.{given_by};
+ghost use Rattle.sl_report_results.specs.inner.Tables.{AreWon};
+ghost use Rattle.sl_report_results.specs.inner.Within.{shape_in};
 
 use crate::columns::{Distribution, distribution_of};
-use crate::drawing::stage_lot;
+use crate::drawing::{given_by, lot_places};
 use crate::fraction::Fraction;
 use crate::margins::{Margins, margins_of};
-use crate::places::{items_in, scope_at, scope_count, steps_in};
+use crate::places::{items_in, scope_at, scope_count, seats_won, shape_in};
 use crate::scopes::{Entry, Scoped, seats_in, shown_entries, weight_in, with_margins, with_quota};
 use sl_base_quotients::{Divisor, Method, NoMemory};
 use sl_report_parties::Setting;
-use sl_stages::{Counted, Scope, SeatStep, Stage};
+use sl_stages::{Column, Counted, Item, Scope, SeatStep, Stage};
 use std::alloc::Global;
 
 // A scope without a divisor and a quota.
@@ -218,32 +222,31 @@ fn name_of(stages: &[Stage], stage: usize) -> &[u8]
     stages[stage].name.as_bytes()
 }
 
-// The entries of a scope that have a weight, seats or a minimum.
+// The entries of a scope that have a weight, seats or a minimum, by the seats that the stage gave to the entries of a column.
 fn entries_in(
     alloc: Global,
     setting: &Setting<'_>,
     stage: usize,
     what: &Distribution,
-    steps: &[SeatStep],
+    won: &Column,
+    given: &[Item],
     scope: Scope,
 ) -> Result<Vec<Entry>, NoMemory>
     requires scope { IsScope setting.now.returns.now scope }
-    requires stage { stage < length setting.now.book.now.stages.items }
-    ensures { IfOk result (λ entries. entries.items ≡ scope_entries setting.now.returns.now (name_of setting.now.book.now.stages.items stage) stage what.now steps.now (items_in setting.now.returns.now what.now.votes.shape scope)) }
+    requires given { given.now ≡ given_by (name_of setting.now.book.now.stages.items stage) what.now.votes.shape setting.now.returns.now.lots }
+    ensures { (steps : List SeatStep) → AreWon setting.now.returns.now (shape_in what.now.votes.shape scope) stage steps won.now.cells.items →
+        IfOk result (λ entries. entries.items ≡ scope_entries setting.now.returns.now (name_of setting.now.book.now.stages.items stage) stage what.now steps (items_in setting.now.returns.now what.now.votes.shape scope)) }
 {
     let returns = setting.returns;
     let votes = what.votes.shape;
     let items = items_in(alloc, returns, votes, scope)?;
-    let name = name_of(setting.book.stages.as_slice(), stage);
-    let lot = stage_lot(alloc, returns, name, votes, items.as_slice())?;
-    let own = steps_in(alloc, steps, stage, scope)?;
+    let places = lot_places(alloc, returns, votes, scope, items.as_slice(), given)?;
     shown_entries(
         alloc,
         returns,
-        stage,
         what,
-        own.as_slice(),
-        lot.as_slice(),
+        won,
+        places.as_slice(),
         items.as_slice(),
     )
 }
@@ -255,14 +258,16 @@ fn push_scope(
     setting: &Setting<'_>,
     stage: usize,
     what: &Distribution,
-    steps: &[SeatStep],
+    won: &Column,
+    given: &[Item],
     scope: Scope,
 ) -> Result<(), NoMemory>
     requires scope { IsScope setting.now.returns.now scope }
-    requires stage { stage < length setting.now.book.now.stages.items }
-    ensures { OnOk result (Adds stage what.now scope (scope_entries setting.now.returns.now (name_of setting.now.book.now.stages.items stage) stage what.now steps.now (items_in setting.now.returns.now what.now.votes.shape scope)) scopes.old.items scopes.new.items) }
+    requires given { given.now ≡ given_by (name_of setting.now.book.now.stages.items stage) what.now.votes.shape setting.now.returns.now.lots }
+    ensures { (steps : List SeatStep) → AreWon setting.now.returns.now (shape_in what.now.votes.shape scope) stage steps won.now.cells.items →
+        OnOk result (Adds stage what.now scope (scope_entries setting.now.returns.now (name_of setting.now.book.now.stages.items stage) stage what.now steps (items_in setting.now.returns.now what.now.votes.shape scope)) scopes.old.items scopes.new.items) }
 {
-    let entries = entries_in(alloc, setting, stage, what, steps, scope)?;
+    let entries = entries_in(alloc, setting, stage, what, won, given, scope)?;
     push_some(alloc, scopes, stage, what, scope, entries.as_slice())
 }
 
@@ -277,10 +282,24 @@ fn scopes_of(
     requires { stage < length setting.now.book.now.stages.items }
     ensures { IfOk result (λ found. AreScopes setting.now.returns.now (name_of setting.now.book.now.stages.items stage) stage what.now steps.now found.items) }
 {
+    let over = what.seats.shape;
+    let votes = shape_in(what.votes.shape, scope_at(over, 0));
+    let won = seats_won(alloc, setting.returns, votes, stage, steps)?;
+    let name = name_of(setting.book.stages.as_slice(), stage);
+    let given = given_by(alloc, setting.returns, name, what.votes.shape)?;
     let mut scopes = Vec::new(alloc);
-    for number in 0..scope_count(setting.returns, what.seats.shape) {
-        let scope = scope_at(what.seats.shape, number);
-        push_scope(alloc, &mut scopes, setting, stage, what, steps, scope)?;
+    for number in 0..scope_count(setting.returns, over) {
+        let scope = scope_at(over, number);
+        push_scope(
+            alloc,
+            &mut scopes,
+            setting,
+            stage,
+            what,
+            &won,
+            given.as_slice(),
+            scope,
+        )?;
     }
     Ok(scopes)
 }

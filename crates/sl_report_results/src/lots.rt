@@ -1,6 +1,7 @@
 //! Whether a lot decided in an allocation, what it gave, and the divisor of its equal claims.
 
-ghost use Rattle.std.specs.Prelude.{◌≡◌, ◌<◌, ◌≤◌, ℕ, None, All, IfOk, MatchOption, length, slice_index_or, unwrap_or};
+ghost use Rattle.std.specs.Prelude.{◌≡◌, ◌<◌, ◌≤◌, ◌↔◌, ℕ, None, All, Contains, IfOk, IsTrue, MatchOption, length, slice_index_or, unwrap_or};
+ghost use Rattle.std.specs.List.Sorted.{IsStrictlyIncreasing};
 ghost use Rattle.sl_base_quotients.specs.Bounds.{IsLast, IsNext, last_quotient, next_quotient};
 ghost use Rattle.sl_report_results.specs.Lots.{AreLots, IsBorder, IsDrawn, IsMark, TellsLot};
 ghost use Rattle.sl_report_results.specs.inner.Common.{IsClaim, IsCommon};
@@ -118,17 +119,27 @@ fn drawn_of(
     if given { None } else { Some(common.is_some()) }
 }
 
+// Whether a number is among numbers in order.
+fn is_among(numbers: &[usize], number: usize) -> bool
+    requires { IsStrictlyIncreasing numbers.now }
+    ensures { IsTrue result ↔ Contains numbers.now number }
+{
+    numbers.binary_search(&number).is_ok()
+}
+
 // What the lot did for an entry.
 fn mark_of(drawn: bool, last: &[usize], next: &[usize], entry: usize) -> Option<bool>
+    requires last { IsStrictlyIncreasing last.now }
+    requires next { IsStrictlyIncreasing next.now }
     ensures { IsMark drawn last.now next.now entry result }
 {
     if !drawn {
         return None;
     }
-    if last.contains(&entry) {
+    if is_among(last, entry) {
         return Some(true);
     }
-    if next.contains(&entry) {
+    if is_among(next, entry) {
         Some(false)
     } else {
         None
@@ -143,6 +154,8 @@ fn marks_of(
     next: &[usize],
     count: usize,
 ) -> Result<Vec<Option<bool>>, NoMemory>
+    requires last { IsStrictlyIncreasing last.now }
+    requires next { IsStrictlyIncreasing next.now }
     ensures long { IfOk result (λ marks. length marks.items ≡ count) }
     ensures marked { IfOk result (λ marks. (k : ℕ) → k < count → IsMark drawn last.now next.now k (slice_index_or marks.items k None)) }
 {

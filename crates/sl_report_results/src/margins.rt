@@ -2,14 +2,16 @@
 
 ghost use Rattle.std.specs.Prelude.{◌≡◌, ℕ, ◌<◌, ◌≤◌, ◌↔◌, None, All, IfOk, IsTrue, MatchOption, length, sum, sum_by, slice_index_or};
 ghost use Rattle.sl_report_parties.specs.Sums.{capped};
+ghost use Rattle.sl_base_quotients.specs.Bounds.{IsLast};
 ghost use Rattle.sl_law_margins.specs.MissingVotes.{AreMissing, IsAllocation};
+ghost use Rattle.sl_law_meaning.specs.methods.Ties.{Lists};
 ghost use Rattle.sl_report_results.specs.Lots.{AreLots};
 ghost use Rattle.sl_report_results.specs.Scopes.{AreLacking, AreMargins, IsAllocated, IsFew, held_of, weights_of};
 
 use crate::lots::lots_of;
 use crate::scopes::Entry;
 use sl_base_quotients::{Divisor, MAX_SEATS, MAX_WEIGHT, NoMemory, Ratio};
-use sl_law_margins::{Decimal, divisor, is_allocation, last_seats, next_claims, votes_missing};
+use sl_law_margins::{Decimal, divisor, is_allocation, last_seats, next_claims, votes_missing_by};
 use std::alloc::Global;
 
 /// The margins of an allocation by a divisor method without minima: a divisor, if a decimal number lies between the claims; the entries that won
@@ -55,22 +57,24 @@ fn held_of(alloc: Global, entries: &[Entry]) -> Result<Vec<u32>, NoMemory>
     Ok(held)
 }
 
-// The votes that each entry lacks.
+// The votes that each entry lacks, by the entries that won the last seat.
 fn all_missing(
     alloc: Global,
     method: Divisor,
     weights: &[u64],
     seats: &[u32],
+    last: &[usize],
 ) -> Result<Vec<Option<u64>>, NoMemory>
     requires weights { All (λ v. v ≤ MAX_WEIGHT) weights.now }
     requires seats { All (λ s. s ≤ MAX_SEATS) seats.now }
     requires allocation { IsAllocation method weights.now seats.now }
+    requires won { Lists (IsLast method weights.now seats.now) last.now }
     ensures long { IfOk result (λ missing. length missing.items ≡ length weights.now) }
     ensures missing { IfOk result (λ missing. (k : ℕ) → k < length weights.now → AreMissing method weights.now seats.now k (slice_index_or missing.items k None)) }
 {
     let mut missing = Vec::new(alloc);
     for entry in 0..weights.len() {
-        missing.push(votes_missing(method, weights, seats, entry))?;
+        missing.push(votes_missing_by(method, weights, seats, last, entry))?;
     }
     Ok(missing)
 }
@@ -90,18 +94,20 @@ fn lacking(
     method: Divisor,
     weights: &[u64],
     seats: &[u32],
+    last: &[usize],
     has_minima: bool,
 ) -> Result<Vec<Option<u64>>, NoMemory>
     requires weights { All (λ v. v ≤ MAX_WEIGHT) weights.now }
     requires seats { All (λ s. s ≤ MAX_SEATS) seats.now }
     requires allocation { IsAllocation method weights.now seats.now }
+    requires won { Lists (IsLast method weights.now seats.now) last.now }
     ensures long { IfOk result (λ missing. length missing.items ≡ length weights.now) }
     ensures missing { IfOk result (λ missing. AreLacking has_minima method weights.now seats.now missing.items) }
 {
     if has_minima {
         none_missing(alloc, weights.len())
     } else {
-        all_missing(alloc, method, weights, seats)
+        all_missing(alloc, method, weights, seats, last)
     }
 }
 
@@ -125,7 +131,7 @@ fn found(
     let divisor = divisor(method, weights, seats);
     let last = last_seats(alloc, method, weights, seats)?;
     let next = next_claims(alloc, method, weights, seats)?;
-    let missing = lacking(alloc, method, weights, seats, has_minima)?;
+    let missing = lacking(alloc, method, weights, seats, last.as_slice(), has_minima)?;
     let lots = lots_of(
         alloc,
         method,

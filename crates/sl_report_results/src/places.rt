@@ -1,43 +1,20 @@
 //! The scopes of a stage and their entries, and the seats that the stage gave to each entry.
 
-ghost use Rattle.std.specs.Prelude.{◌≡◌, ◌<◌, ◌++◌, ◌∷◌, [], IfOk, OnOk, slice_index, filter, map, if◌then◌else◌};
-ghost use Rattle.sl_report_results.specs.Places.{IsScope, is_seat_of, items_in, scope_at, scope_count, seats_of};
-ghost use Rattle.sl_report_results.specs.inner.Within.{is_step_in, is_within};
+ghost use Rattle.std.specs.Prelude.{◌≡◌, ◌<◌, ◌++◌, ◌∷◌, [], IfOk, IfSome, OnOk, slice_index, map, if◌then◌else◌};
+ghost use Rattle.sl_report_results.specs.Places.{IsScope, items_in, scope_at, scope_count};
+ghost use Rattle.sl_report_results.specs.inner.Tables.{AreWon, seat_place};
+ghost use Rattle.sl_report_results.specs.inner.Within.{own_place, place_in, shape_in, size_in};
+ghost use Rattle.sl_law_meaning.specs.laws.ColumnLaws.{size_of};
+ghost use Rattle.sl_law_meaning.specs.declared.fault.Scope.TheVariants as scope;
 ghost use Rattle.sl_law_meaning.specs.declared.fault.Item.TheVariants as item;
-ghost use Rattle.sl_law_meaning.specs.meaning.Scopes.{all_lists, entries_of, lists_in_land, lists_of_party, place, same_item};
+ghost use Rattle.sl_law_meaning.specs.meaning.Scopes.{all_lists, entries_of, lists_in_land, lists_of_party, place};
 ghost use Rattle.sl_law_meaning.specs.returns.Election.{lands_of, parties_of};
 ghost use Rattle.sl_law_meaning.specs.returns.Facts.{lands, parties};
 
-use crate::columns::number_at;
+use crate::columns::{number_at, place_of};
 use sl_base_quotients::NoMemory;
-use sl_report_parties::one_if;
 use sl_stages::{Column, Item, Returns, Scope, SeatStep, Shape};
 use std::alloc::Global;
-
-/// Whether two entries are the same.
-pub(crate) fn same_item(first: Item, second: Item) -> bool
-    ensures { result ≡ same_item first second }
-{
-    first == second
-}
-
-// Whether a step won a seat of a stage for an entry.
-fn is_seat_of(step: SeatStep, stage: usize, item: Item) -> bool
-    ensures { result ≡ is_seat_of stage item step }
-{
-    step.stage == stage && same_item(step.entry, item)
-}
-
-/// The seats that a stage gave to an entry, by the steps that won them.
-pub(crate) fn seats_of(steps: &[SeatStep], stage: usize, item: Item) -> u64
-    ensures { result ≡ seats_of stage steps.now item }
-{
-    let mut seats = 0u64;
-    for step in steps {
-        seats += one_if(is_seat_of(*step, stage, item));
-    }
-    seats
-}
 
 // Adds an element, if it is there.
 fn push_if<T: Copy>(all: &mut Vec<T>, one: T, is_there: bool) -> Result<(), NoMemory>
@@ -49,39 +26,94 @@ fn push_if<T: Copy>(all: &mut Vec<T>, one: T, is_there: bool) -> Result<(), NoMe
     Ok(())
 }
 
-// Whether an entry can be one of a scope's, by its Land and its party.
-fn is_within(scope: Scope, item: Item) -> bool
-    ensures { result ≡ is_within scope item }
+// Where an entry stands in a column of that shape, if it can be one of its.
+fn own_place(returns: &Returns, votes: Shape, item: Item) -> Option<usize>
+    ensures place { result ≡ own_place returns.now votes item }
+    ensures within { IfSome result (λ place. place < size_of returns.now votes) }
+{
+    let lands = returns.lands();
+    let parties = returns.parties();
+    match (votes, item) {
+        (Shape::Party, Item::Party(party)) if party < parties => Some(party),
+        (Shape::Land, Item::Land(land)) if land < lands => Some(land),
+        (Shape::List, Item::List(land, party)) if land < lands && party < parties => {
+            Some(place_of(returns, land, party))
+        }
+        _ => None,
+    }
+}
+
+/// Where an entry stands among all that a scope of a column of that shape can have, if it can be one of them.
+pub(crate) fn place_in(returns: &Returns, votes: Shape, scope: Scope, item: Item) -> Option<usize>
+    ensures place { result ≡ place_in returns.now votes scope item }
+    ensures within { IfSome result (λ place. place < size_in returns.now votes scope) }
 {
     match (scope, item) {
-        (Scope::All, _) => true,
-        (Scope::Party(party), Item::List(_, own)) => own == party,
-        (Scope::Land(land), Item::List(own, _)) => own == land,
-        (Scope::Party(_) | Scope::Land(_) | Scope::List(_, _), _) => false,
+        (Scope::All, _) => own_place(returns, votes, item),
+        (Scope::Party(own), Item::List(land, party)) => {
+            (land < returns.lands() && party < returns.parties() && party == own).then_some(land)
+        }
+        (Scope::Land(own), Item::List(land, party)) => {
+            (land < returns.lands() && party < returns.parties() && land == own).then_some(party)
+        }
+        (Scope::Party(_) | Scope::Land(_) | Scope::List(_, _), _) => None,
     }
 }
 
-// Whether a step can have won a seat of a stage for an entry of a scope.
-fn is_step_in(step: &SeatStep, stage: usize, scope: Scope) -> bool
-    ensures { result ≡ is_step_in stage scope step.now }
+/// How many places a scope of a column of that shape has.
+pub(crate) fn size_in(returns: &Returns, votes: Shape, scope: Scope) -> usize
+    ensures { result ≡ size_in returns.now votes scope }
 {
-    step.stage == stage && is_within(scope, step.entry)
+    match (scope, votes) {
+        (Scope::All, Shape::One) => 1,
+        (Scope::All, Shape::Party) | (Scope::Land(_), _) => returns.parties(),
+        (Scope::All, Shape::Land) | (Scope::Party(_), _) => returns.lands(),
+        (Scope::All, Shape::List) | (Scope::List(_, _), _) => returns.lands() * returns.parties(),
+    }
 }
 
-/// The steps of a stage that can have won a seat for an entry of a scope.
-pub(crate) fn steps_in(
+/// The shape of the entries of a scope of a column.
+pub(crate) fn shape_in(votes: Shape, scope: Scope) -> Shape
+    ensures { result ≡ shape_in votes scope }
+{
+    match scope {
+        Scope::All => votes,
+        Scope::Party(_) | Scope::Land(_) | Scope::List(_, _) => Shape::List,
+    }
+}
+
+// The place in a column of that shape of the entry for which a step won a seat of a stage.
+fn seat_place(returns: &Returns, votes: Shape, stage: usize, step: &SeatStep) -> Option<usize>
+    ensures place { result ≡ seat_place returns.now votes stage step.now }
+    ensures within { IfSome result (λ place. place < size_of returns.now votes) }
+{
+    if step.stage == stage {
+        own_place(returns, votes, step.entry)
+    } else {
+        None
+    }
+}
+
+/// The seats that a stage gave to the entries of a column of that shape, by the steps that won them: a column of that shape.
+pub(crate) fn seats_won(
     alloc: Global,
-    steps: &[SeatStep],
+    returns: &Returns,
+    votes: Shape,
     stage: usize,
-    scope: Scope,
-) -> Result<Vec<SeatStep>, NoMemory>
-    ensures { IfOk result (λ own. own.items ≡ filter (is_step_in stage scope) steps.now) }
+    steps: &[SeatStep],
+) -> Result<Column, NoMemory>
+    ensures { IfOk result (λ won. AreWon returns.now votes stage steps.now won.cells.items) }
 {
-    let mut own: Vec<SeatStep> = Vec::new(alloc);
+    let mut cells = vec![in alloc; 0u64; size_in(returns, votes, Scope::All)]?;
     for step in steps {
-        push_if(&mut own, *step, is_step_in(step, stage, scope))?;
+        if let Some(place) = seat_place(returns, votes, stage, step) {
+            cells[place] += 1;
+        }
     }
-    Ok(own)
+    Ok(Column {
+        shape: votes,
+        cells,
+    })
 }
 
 /// The number of an entry in a column of its shape.

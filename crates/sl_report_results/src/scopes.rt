@@ -1,19 +1,19 @@
 //! The scopes of a stage.
 
-ghost use Rattle.std.specs.Prelude.{◌≡◌, ◌++◌, ◌∷◌, [], None, Some, IfOk, OnOk, map, filter, length, slice_get, sum_by, ◌<◌};
+ghost use Rattle.std.specs.Prelude.{◌≡◌, ℕ, ◌++◌, ◌∷◌, [], List, None, Some, IfOk, OnOk, map, filter, length, slice_get, slice_index_or, sum_by, ◌<◌};
 ghost use Rattle.std.specs.List.{zip};
 ghost use Rattle.sl_base_quotients.specs.declared.method.Method.TheVariants as by;
-ghost use Rattle.sl_report_results.specs.Places.{items_in};
-ghost use Rattle.sl_report_results.specs.Scopes.{entry_of, is_shown, quota_entry, shown_entries, with_margins};
+ghost use Rattle.sl_law_meaning.specs.declared.table.SeatStep.{SeatStep};
+ghost use Rattle.sl_report_results.specs.Scopes.{is_shown, quota_entry, shown_entries, with_margins};
+ghost use Rattle.sl_report_results.specs.inner.Tables.{AreTold, entry_by};
 ghost use Rattle.sl_report_parties.specs.Sums.{capped};
 
 use crate::columns::Distribution;
-use crate::drawing::lot_place;
 use crate::fraction::Fraction;
-use crate::places::{items_in, number_of, seats_of};
+use crate::places::number_of;
 use sl_base_quotients::{Method, NoMemory, Ratio};
 use sl_law_margins::Decimal;
-use sl_stages::{Item, Returns, Scope, SeatStep};
+use sl_stages::{Column, Item, Returns, Scope};
 use std::alloc::Global;
 
 /// An entry of a scope: its weight in votes or people, its seats, its minimum, its quotient by the divisor or the quota, the votes that it lacks
@@ -52,17 +52,15 @@ pub struct Scoped {
     pub drawn: Option<bool>,
 }
 
-// An entry without a quotient.
+// An entry without a quotient, by the seats of the entries of a column and by its place in a lot.
 fn entry_of(
     returns: &Returns,
-    stage: usize,
     what: &Distribution,
-    steps: &[SeatStep],
-    lot: &[usize],
-    items: &[Item],
+    won: &Column,
+    place: Option<u64>,
     item: Item,
 ) -> Entry
-    ensures { result ≡ entry_of returns.now stage what.now steps.now lot.now items.now item }
+    ensures { result ≡ entry_by returns.now what.now won.now.cells.items place item }
 {
     let minimum = match &what.minima {
         Some(minima) => number_of(returns, minima, item),
@@ -71,12 +69,12 @@ fn entry_of(
     Entry {
         item,
         weight: number_of(returns, &what.votes, item),
-        seats: seats_of(steps, stage, item),
+        seats: number_of(returns, won, item),
         minimum,
         quotient: None,
         missing: None,
         lot: None,
-        place: lot_place(lot, items, item),
+        place,
     }
 }
 
@@ -90,22 +88,29 @@ fn push_shown(entries: &mut Vec<Entry>, entry: Entry) -> Result<(), NoMemory>
     Ok(())
 }
 
-/// The entries of a scope that have a weight, seats or a minimum, by a lot among its items.
+// The place in a lot of the entry of that number.
+fn place_at(places: &[Option<u64>], number: usize) -> Option<u64>
+    ensures { result ≡ slice_index_or places.now number None }
+{
+    places.get(number).copied().flatten()
+}
+
+/// The entries of a scope that have a weight, seats or a minimum, by the seats of the entries of a column and by the places of its own in a lot.
 pub(crate) fn shown_entries(
     alloc: Global,
     returns: &Returns,
-    stage: usize,
     what: &Distribution,
-    steps: &[SeatStep],
-    lot: &[usize],
+    won: &Column,
+    places: &[Option<u64>],
     items: &[Item],
 ) -> Result<Vec<Entry>, NoMemory>
-    ensures { IfOk result (λ entries. entries.items ≡ shown_entries returns.now stage what.now steps.now lot.now items.now) }
+    ensures { (stage : ℕ) → (steps : List SeatStep) → (lot : List ℕ) → AreTold returns.now stage steps lot won.now.cells.items places.now items.now →
+        IfOk result (λ entries. entries.items ≡ shown_entries returns.now stage what.now steps lot items.now) }
 {
     let mut entries: Vec<Entry> = Vec::new(alloc);
-    for item in items {
-        let entry = entry_of(returns, stage, what, steps, lot, items, *item);
-        push_shown(&mut entries, entry)?;
+    for (number, item) in items.iter().enumerate() {
+        let place = place_at(places, number);
+        push_shown(&mut entries, entry_of(returns, what, won, place, *item))?;
     }
     Ok(entries)
 }

@@ -13,4 +13,5 @@ pub mod Earlier
 pub mod Press
 pub mod Reports
 pub mod Ends
+pub mod Answers
 pub mod inner

@@ -1,6 +1,7 @@
 //! What a command that reports answers: sheets with a status, and their text in one of the forms.
 
 ghost use Rattle.std.specs.Prelude.{◌≡◌, [], IfOk};
+ghost use Rattle.sl_report_tables.specs.Answers.{IsRefusal, IsRefusedBy};
 
 use sl_base_quotients::NoMemory;
 use sl_count_inputs::Status;
@@ -45,6 +46,7 @@ impl Answer {
     // The answer of a command that has these sheets.
     pub(crate) fn done(alloc: Global, sheets: Vec<Sheet>) -> Answer
         ensures status { result.status ≡ Status.Done }
+        ensures line { result.line.items ≡ [] }
         ensures sheets { result.sheets.items ≡ sheets.items }
     {
         Answer {
@@ -54,22 +56,9 @@ impl Answer {
         }
     }
 
-    // The answer of a command that ends in a legal fault, stated by this line, with these sheets.
-    pub(crate) fn legal(line: Vec<u8>, sheets: Vec<Sheet>) -> Answer
-        ensures status { result.status ≡ Status.Legal }
-        ensures sheets { result.sheets.items ≡ sheets.items }
-    {
-        Answer {
-            status: Status::Legal,
-            line,
-            sheets,
-        }
-    }
-
     /// The answer that refuses an input by a line.
     pub fn refused(alloc: Global, line: Vec<u8>) -> Answer
-        ensures status { result.status ≡ Status.Refused }
-        ensures sheets { result.sheets.items ≡ [] }
+        ensures { IsRefusedBy line.items result }
     {
         Answer {
             status: Status::Refused,
@@ -80,7 +69,7 @@ impl Answer {
 
     // The line that refuses the names in a record, with what such a record is.
     pub(crate) fn refused_names(alloc: Global, row: u64) -> Result<Answer, NoMemory>
-        ensures { IfOk result (λ a. (a.status ≡ Status.Refused) × (a.sheets.items ≡ [])) }
+        ensures { IfOk result IsRefusal }
     {
         let line = format!(in alloc; "refused names {row}: {NAMES_FORM}\n")?;
         Ok(Answer::refused(alloc, line.into_bytes()))
@@ -88,7 +77,7 @@ impl Answer {
 
     // The line that refuses names of too many bytes.
     pub(crate) fn names_too_long(alloc: Global) -> Result<Answer, NoMemory>
-        ensures { IfOk result (λ a. (a.status ≡ Status.Refused) × (a.sheets.items ≡ [])) }
+        ensures { IfOk result IsRefusal }
     {
         let line = String::from_str(alloc, "refused names toolong: at most 4,194,304 bytes\n")?;
         Ok(Answer::refused(alloc, line.into_bytes()))
@@ -96,7 +85,7 @@ impl Answer {
 
     // The line that refuses an earlier seat table in a line, with what such a line is.
     pub(crate) fn refused_before(alloc: Global, line: usize) -> Result<Answer, NoMemory>
-        ensures { IfOk result (λ a. (a.status ≡ Status.Refused) × (a.sheets.items ≡ [])) }
+        ensures { IfOk result IsRefusal }
     {
         let line = format!(in alloc; "refused before {line}: {BEFORE_FORM}\n")?;
         Ok(Answer::refused(alloc, line.into_bytes()))
@@ -104,7 +93,7 @@ impl Answer {
 
     // The line that refuses an earlier seat table of too many bytes.
     pub(crate) fn before_too_long(alloc: Global) -> Result<Answer, NoMemory>
-        ensures { IfOk result (λ a. (a.status ≡ Status.Refused) × (a.sheets.items ≡ [])) }
+        ensures { IfOk result IsRefusal }
     {
         let line = String::from_str(alloc, "refused before toolong: at most 4,194,304 bytes\n")?;
         Ok(Answer::refused(alloc, line.into_bytes()))

@@ -1,7 +1,7 @@
 //! The full names and the earlier seat table of an answer, or the answer that refuses one of them.
 
-ghost use Rattle.std.specs.Prelude.{◌≡◌, [], IfErr, IfOk, is_err, option_map};
-ghost use Rattle.sl_count_inputs.specs.declared.status.Status.TheVariants.{Refused};
+ghost use Rattle.std.specs.Prelude.{◌≡◌, IfErr, IfOk, is_err, option_map};
+ghost use Rattle.sl_report_tables.specs.Answers.{IsRefusal};
 ghost use Rattle.sl_report_tables.specs.Earlier.{IsEarlier, IsEarlierIn, is_no_table, is_refused_in};
 ghost use Rattle.sl_report_tables.specs.Names.{are_refused, are_refused_in};
 
@@ -22,7 +22,7 @@ pub const MAX_BEFORE_BYTES: usize = 4_194_304;
 /// The full names of a text, or the answer that refuses them. Where no text is given there are none.
 pub fn names_of(alloc: Global, names: Option<&[u8]>) -> Result<Result<FullNames, Answer>, NoMemory>
     ensures which { IfOk result (λ full. is_err full ≡ are_refused (option_map (λ text. text.now) names.entry)) }
-    ensures refused { IfOk result (λ full. IfErr full (λ a. (a.status ≡ Refused) × (a.sheets.items ≡ []))) }
+    ensures refused { IfOk result (λ full. IfErr full IsRefusal) }
 {
     let Some(bytes) = names else {
         return Ok(Ok(FullNames::none(alloc)));
@@ -39,7 +39,7 @@ pub fn names_of(alloc: Global, names: Option<&[u8]>) -> Result<Result<FullNames,
 /// The full names of a text that was read, as `names_of` has them.
 pub fn names_in(alloc: Global, read: &Option<Bytes>) -> Result<Result<FullNames, Answer>, NoMemory>
     ensures which { IfOk result (λ full. is_err full ≡ are_refused_in read.now) }
-    ensures refused { IfOk result (λ full. IfErr full (λ a. (a.status ≡ Refused) × (a.sheets.items ≡ []))) }
+    ensures refused { IfOk result (λ full. IfErr full IsRefusal) }
 {
     match read {
         None => Ok(Ok(FullNames::none(alloc))),
@@ -55,7 +55,7 @@ fn earlier_of<'a>(
 ) -> Result<Result<Vec<EarlierParty<'a>>, Answer>, NoMemory>
     ensures which { IfOk result (λ r. is_err r ≡ is_no_table text.now) }
     ensures told { IfOk result (λ r. IfOk r (λ found. IsEarlier text.now found.items)) }
-    ensures refused { IfOk result (λ r. IfErr r (λ a. (a.status ≡ Refused) × (a.sheets.items ≡ []))) }
+    ensures refused { IfOk result (λ r. IfErr r IsRefusal) }
 {
     let Ok(text) = std::str::from_utf8(text) else {
         return Ok(Err(Answer::refused_before(alloc, 1)?));
@@ -73,7 +73,7 @@ pub fn earlier_in<'a>(
 ) -> Result<Result<Option<Vec<EarlierParty<'a>>>, Answer>, NoMemory>
     ensures which { IfOk result (λ r. is_err r ≡ is_refused_in read.now) }
     ensures told { IfOk result (λ r. IfOk r (λ found. IsEarlierIn read.now found)) }
-    ensures refused { IfOk result (λ r. IfErr r (λ a. (a.status ≡ Refused) × (a.sheets.items ≡ []))) }
+    ensures refused { IfOk result (λ r. IfErr r IsRefusal) }
 {
     match read {
         None => Ok(Ok(None)),

@@ -1,8 +1,7 @@
 //! The answer that shows several rulebooks side by side: that of `compare`.
 
-ghost use Rattle.std.specs.Prelude.{◌≡◌, IfOk, map};
-ghost use Rattle.sl_count_inputs.specs.declared.status.Status.TheVariants.{Done};
-ghost use Rattle.sl_report_forms.specs.Tables.{table_of};
+ghost use Rattle.std.specs.Prelude.{IfOk};
+ghost use Rattle.sl_report_tables.specs.Answers.{HasTables};
 ghost use Rattle.sl_report_tables.specs.Compare.{AreComparison};
 
 use crate::answer::Answer;
@@ -22,8 +21,7 @@ pub fn comparison_answer(
     full: &FullNames,
     language: Language,
 ) -> Result<Answer, NoMemory>
-    ensures status { IfOk result (λ a. a.status ≡ Done) }
-    ensures shows { IfOk result (λ a. AreComparison returns.now books.now (map table_of a.sheets.items)) }
+    ensures { IfOk result (HasTables (AreComparison returns.now books.now)) }
 {
     let naming = Naming {
         returns,

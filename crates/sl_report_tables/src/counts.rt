@@ -14,6 +14,7 @@ use crate::naming::Naming;
 use crate::press::press_sheets;
 use crate::stages::stage_sheets;
 use sl_base_quotients::NoMemory;
+use sl_count_inputs::Status;
 use sl_explain_texts::Language;
 use sl_report_forms::Sheet;
 use sl_report_parties::{EarlierParty, Setting, parts_of};
@@ -90,18 +91,17 @@ fn sheets_of(
     }
 }
 
-// The answer with these sheets; a legal fault is stated by this line.
-fn answer_of(alloc: Global, end: &End, line: Vec<u8>, sheets: Vec<Sheet>) -> Answer
-    ensures status { result.status ≡ end_status end.now }
-    ensures sheets { result.sheets.items ≡ sheets.items }
+// The status of how a count ends.
+fn status_of(end: &End) -> Status
+    ensures { result ≡ end_status end.now }
 {
     match end {
-        End::Counted(_) => Answer::done(alloc, sheets),
-        End::Fault(_) => Answer::legal(line, sheets),
+        End::Counted(_) => Status::Done,
+        End::Fault(_) => Status::Legal,
     }
 }
 
-/// The answer that shows how the count of a good book on good returns ends; a legal fault is stated by the line with which counting does.
+/// The answer that shows how the count of a good book on good returns ends, with the line with which counting tells of a legal fault.
 pub fn count_answer(
     alloc: Global,
     show: Show<'_>,
@@ -114,6 +114,7 @@ pub fn count_answer(
 ) -> Result<Answer, NoMemory>
     requires { HoldsEnd (book_of book.now.book) returns.now end.now }
     ensures status { IfOk result (λ a. a.status ≡ end_status end.now) }
+    ensures line { IfOk result (λ a. a.line ≡ line) }
     ensures shows { IfOk result (λ a. Shows book.now.book returns.now show.entry end.now (map table_of a.sheets.items)) }
 {
     let naming = Naming {
@@ -124,5 +125,9 @@ pub fn count_answer(
     let parts = parts_of(alloc, book.book.eligible.as_slice(), returns)?;
     let setting = Setting::new(&book.book, returns, parts);
     let sheets = sheets_of(alloc, show, &setting, &naming, end)?;
-    Ok(answer_of(alloc, end, line, sheets))
+    Ok(Answer {
+        status: status_of(end),
+        line,
+        sheets,
+    })
 }

@@ -1,8 +1,7 @@
 //! The answer that adds up returns: that of `totals`.
 
-ghost use Rattle.std.specs.Prelude.{◌≡◌, IfOk, map, option_map};
-ghost use Rattle.sl_count_inputs.specs.declared.status.Status.TheVariants.{Done};
-ghost use Rattle.sl_report_forms.specs.Tables.{table_of};
+ghost use Rattle.std.specs.Prelude.{IfOk, option_map};
+ghost use Rattle.sl_report_tables.specs.Answers.{HasTables};
 ghost use Rattle.sl_report_tables.specs.Totals.{AreTotals};
 
 use crate::answer::Answer;
@@ -22,8 +21,7 @@ pub fn totals_answer(
     full: &FullNames,
     language: Language,
 ) -> Result<Answer, NoMemory>
-    ensures status { IfOk result (λ a. a.status ≡ Done) }
-    ensures shows { IfOk result (λ a. AreTotals (option_map (λ b. b.now) book.entry) returns.now (map table_of a.sheets.items)) }
+    ensures { IfOk result (HasTables (AreTotals (option_map (λ b. b.now) book.entry) returns.now)) }
 {
     let naming = Naming {
         returns,

@@ -1,5 +1,5 @@
 -- Rulebooks side by side: their columns, by the words that name them and by other methods.
-use Rattle.std.proofs.Common.{All, Any, Bool, Contains, Err, IfOk, List, None, Ok, Option, Result, Some, [], ap, arith, false, inl, inr, map, refl, subst, suc, sym, true, ◌++◌, ◌∙◌, ◌∷◌, ◌≡◌, ℕ}
+use Rattle.std.proofs.Common.{All, Any, Bool, Contains, Err, IfOk, List, None, Ok, Option, Result, Some, [], ap, arith, false, inl, inr, map, refl, subst, suc, sym, true, ◌++◌, ◌∙◌, ◌∷◌, ◌≡◌, ◌⊎◌, ℕ}
 use Rattle.std.proofs.lemmas.Grind.{flat_map-append}
 use Rattle.std.proofs.lemmas.List.{append-nil, map-append}
 use Rattle.std.proofs.lemmas.List.Elements.{All-append, filter_map-append}
@@ -9,39 +9,42 @@ use Rattle.std.specs.Global.{Vec}
 use Rattle.std.specs.Prelude.{codes, flat_map, slice_get, string_bytes}
 use Rattle.sl_base_quotients.specs.declared.method.Method.{Method}
 use Rattle.sl_base_quotients.specs.declared.no_memory.NoMemory.{NoMemory}
-use Rattle.sl_count_inputs.specs.Judging.{election_verdict, tree_verdict}
+use Rattle.sl_count_inputs.specs.Books.{book_line}
+use Rattle.sl_count_inputs.specs.Judging.{election_verdict, refusal_of, returns_refusal_of, tree_verdict}
+use Rattle.sl_count_inputs.specs.Reading.{ForKnown}
+use Rattle.sl_count_inputs.specs.Returns.{returns_line}
 use Rattle.sl_count_inputs.specs.declared.refused_book.RefusedBook.{RefusedBook}
-use Rattle.sl_count_inputs.specs.declared.refused_election.RefusedElection.{RefusedElection}
 use Rattle.sl_count_inputs.specs.declared.status.Input.TheVariants as input
 use Rattle.sl_count_inputs.specs.declared.status.Status.TheVariants as status
-use Rattle.sl_count_inputs.specs.declared.status.Status.{Status}
 use Rattle.sl_count_inputs.specs.declared.verdict.Verdict.TheVariants.{Good, Refused}
 use Rattle.sl_count_inputs.specs.declared.verdict.Verdict.{Verdict}
-use Rattle.sl_explain_calls.specs.Codes.{book_code, election_code, subject}
+use Rattle.sl_explain_calls.specs.Codes.{Subject, book_code, election_code, subject}
 use Rattle.sl_explain_texts.specs.declared.language.Language.{Language}
 use Rattle.sl_law_meaning.proofs.meaning.Members.{all_and_one}
 use Rattle.sl_law_meaning.specs.book.Books.{book_of}
 use Rattle.sl_law_meaning.specs.declared.checked.CheckedBook.{CheckedBook}
 use Rattle.sl_law_meaning.specs.returns.Election.{Election}
 use Rattle.sl_report_commands.specs.Methods.{IsTreeVerdictBy}
-use Rattle.sl_report_commands.specs.Summaries.{IsRefusal}
-use Rattle.sl_report_commands.specs.Written.{IsWritten}
+use Rattle.sl_report_commands.specs.Written.{IsWritten, json_digests}
 use Rattle.sl_report_commands.specs.declared.comparison.Compared.{Compared}
 use Rattle.sl_report_commands.specs.declared.written.Style.{Style}
-use Rattle.sl_report_forms.specs.Tables.{Table, table_of}
 use Rattle.sl_report_forms.specs.declared.heading.Heading.{Heading}
+use Rattle.sl_report_tables.specs.Answers.{IsRefusedBy}
 use Rattle.sl_report_tables.specs.Words.{method_written}
 use Rattle.sl_report_tables.specs.declared.answer.Answer.{Answer}
 use Rattle.sl_report_tables.specs.declared.answer.Shape.{Shape}
 use Rattle.sl_report_warnings.specs.Warnings.{warnings_of}
+use Rattle.sl_terminal_commands.proofs.Digested.{digests_on}
 use Rattle.sl_terminal_commands.proofs.Zips.{all_before, all_last, any_left, any_map, any_right, zip_append, zip_map, zip_parts, zip_through}
 use Rattle.sl_terminal_commands.specs.Beside.{AreNames}
-use Rattle.sl_terminal_commands.specs.Comparisons.{IsColumnOn, IsComparison, IsComparisonOf, IsRefusedOn, ShowsBooks, column_word, columns, compared_words, methods_written, table_said}
+use Rattle.sl_terminal_commands.specs.Comparisons.{AreRefused, IsColumnOn, IsComparison, IsComparisonOf, IsRefusedOn, ShowsBooks, column_word, columns, compared_digests, compared_words, methods_written, named_inputs, table_said}
 use Rattle.sl_terminal_commands.specs.Said.{AreWarnings, IsSaid, Said, fault}
 use Rattle.sl_terminal_commands.specs.Sums.{AreJudged, IsVerdictOn}
 use Rattle.sl_terminal_commands.specs.declared.answered.Answered.{Answered}
 use Rattle.sl_terminal_commands.specs.declared.sums.NamedBook.{NamedBook}
-use Rattle.sl_terminal_commands.specs.inner.Comparing.{AreGood, IsBad, IsColumn, IsComparedAnswer, IsGood, IsReadBook, IsSheets, IsVaried, IsVariedOf, ShowsNamed, pairs}
+use Rattle.sl_terminal_commands.specs.declared.sums.NamedReturns.{NamedReturns}
+use Rattle.sl_terminal_commands.specs.inner.Comparing.{AreGood, AreReadOf, IsBad, IsColumn, IsComparedAnswer, IsGood, IsReadBook, IsSheets, IsVaried, IsVariedOf, ShowsNamed, pairs}
+use Rattle.sl_terminal_commands.specs.inner.Digested.{called_digests}
 
 abbrev pub word_of : NamedBook → List ℕ
 word_of b = b.word.now
@@ -50,16 +53,15 @@ good_not_bad : {A B : Type 0} (v : Verdict A B) → IsGood v → IsBad v → ⊥
 good_not_bad v (a, good) (b, bad) = absurd cc
 
 -- an answer with its text, and what is said of it
-pub sheets_of : (IsText : Shape → Heading → Answer → List ℕ → Type 0) (style : Style) (Shows : Status → List Table → Type 0) (what : Said) (r : Result Answered NoMemory) (answer : Answer)
-    (said : Vec ℕ) (digests : List (List ℕ)) → IfOk r (λ a. a.status ≡ answer.status) → IfOk r (λ a. IsWritten IsText (codes "compare") style digests answer a.text.items)
-    → IfOk r (λ a. a.said ≡ said) → Shows answer.status (map table_of answer.sheets.items) → IsSaid style.language what said.items → IfOk r (IsSheets IsText style Shows what)
-sheets_of IsText style Shows what (Err e) answer said digests status written same shows told = tt
-sheets_of IsText style Shows what (Ok a) answer said digests status written same shows told =
+pub sheets_of : (IsText : Shape → Heading → Answer → List ℕ → Type 0) (style : Style) (digests : List (List ℕ)) (Shows : Answer → Type 0) (what : Said) (r : Result Answered NoMemory)
+    (answer : Answer) (said : Vec ℕ) → IfOk r (λ a. a.status ≡ answer.status) → IfOk r (λ a. IsWritten IsText (codes "compare") style digests answer a.text.items)
+    → IfOk r (λ a. a.said ≡ said) → Shows answer → IsSaid style.language what said.items → IfOk r (IsSheets IsText style digests Shows what)
+sheets_of IsText style digests Shows what (Err e) answer said status written same shows told = tt
+sheets_of IsText style digests Shows what (Ok a) answer said status written same shows told =
     record {
       answer = answer;
       status = status;
-      tables = subst (λ s. Shows s (map table_of answer.sheets.items)) (sym status) shows;
-      digests = digests;
+      shows = shows;
       written = written;
       said = subst (λ t. IsSaid style.language what t.items) (sym same) told;
     }
@@ -149,15 +151,15 @@ module _ (bytes : List ℕ → Option (List ℕ)) where
   plain_column : (b : NamedBook) (c : Compared) → IsReadBook bytes b → IsColumn b c → IsColumnOn bytes (plain (word_of b)) c
   plain_column b c read is =
       record {
-        word = subst (λ m. string_bytes c.word ≡ column_word b.word.now m) read.0 is.word;
-        book = subst (λ v. IsVerdictOn bytes b.word.now (tree_verdict v)) is.book read.1;
+        word = subst (λ m. string_bytes c.word ≡ column_word b.word.now m) read.own is.word;
+        book = subst (λ v. IsVerdictOn bytes b.word.now (tree_verdict v)) is.book read.verdict;
       }
 
   changed_column : (p : NamedBook × Method) (c : Compared) → IsReadBook bytes p.0 → ((v : NamedBook) × IsVariedOf p v × IsColumn v c) → IsColumnOn bytes (changed p) c
   changed_column p c read (v, (book, good, by), is) =
       record {
         word = is.word ∙ ap (λ w. column_word w v.method) (ap (λ w. w.now) by.word) ∙ ap (column_word p.0.word.now) by.method;
-        book = (book_of book.book, subst (λ v. IsVerdictOn bytes p.0.word.now (tree_verdict v)) good read.1, subst (λ v. IsTreeVerdictBy p.1 (book_of book.book) (tree_verdict v)) is.book by.verdict);
+        book = (book_of book.book, subst (λ v. IsVerdictOn bytes p.0.word.now (tree_verdict v)) good read.verdict, subst (λ v. IsTreeVerdictBy p.1 (book_of book.book) (tree_verdict v)) is.book by.verdict);
       }
 
   read_each : (b : NamedBook) → IsReadBook bytes b → (methods : List Method) → All (λ (p : NamedBook × Method). IsReadBook bytes p.0) (map (λ (by : Method). (b, by)) methods)
@@ -186,43 +188,44 @@ module _ (bytes : List ℕ → Option (List ℕ)) where
       )
 
   -- a table of rulebooks is one of their columns
-  shows_on : (is_refused : Bool) (e : Election) (books varied : List NamedBook) (methods : List Method) (ends : Status) (tables : List Table) → All (IsReadBook bytes) books
-      → AllZip IsVariedOf (pairs books methods) varied → ShowsNamed is_refused e (books ++ varied) ends tables
-      → ShowsBooks bytes (columns (map word_of books) methods) is_refused e ends tables
-  shows_on false e books varied methods ends tables read by h = (h.0, (h.1.0, columns_on books varied methods h.1.0 read by h.1.1, h.1.2))
-  shows_on true e books varied methods ends tables read by h = h
+  shows_on : (is_refused : Bool) (e : Election) (books varied : List NamedBook) (methods : List Method) (a : Answer) → All (IsReadBook bytes) books
+      → AllZip IsVariedOf (pairs books methods) varied → ShowsNamed is_refused e (books ++ varied) a → ShowsBooks bytes (columns (map word_of books) methods) is_refused e a
+  shows_on false e books varied methods a read by h = (h.0, h.1, (h.2.0, columns_on books varied methods h.2.0 read by h.2.1, h.2.2))
+  shows_on true e books varied methods a read by h = h
 
   -- one of the columns is refused
   refused_book : (books : List NamedBook) (methods : List Method) (b : NamedBook) (why : RefusedBook) → All (IsReadBook bytes) books → Contains books b → b.read.verdict ≡ Refused why
-      → Any (IsRefusedOn bytes (subject input.Book (book_code why))) (columns (map word_of books) methods)
+      → Any (IsRefusedOn bytes (book_line (refusal_of why)) (subject input.Book (book_code why))) (columns (map word_of books) methods)
   refused_book books methods b why read there is =
+      let line = book_line (refusal_of why) in
       let s = subject input.Book (book_code why) in
       let on : IsReadBook bytes b = subst (IsReadBook bytes) there.2 (read there.0 b there.1) in
-      subst (Any (IsRefusedOn bytes s)) (sym (columns_all books methods))
+      subst (Any (IsRefusedOn bytes line s)) (sym (columns_all books methods))
       (
-      any_left (IsRefusedOn bytes s) (map (λ (b : NamedBook). plain (word_of b)) books) (map changed (pairs books methods))
+      any_left (IsRefusedOn bytes line s) (map (λ (b : NamedBook). plain (word_of b)) books) (map changed (pairs books methods))
       (
-      any_map (IsRefusedOn bytes s) (λ (b : NamedBook). plain (word_of b)) books b there
-      (why, subst (λ v. IsVerdictOn bytes b.word.now (tree_verdict v)) is on.1, refl)
+      any_map (IsRefusedOn bytes line s) (λ (b : NamedBook). plain (word_of b)) books b there
+      (why, subst (λ v. IsVerdictOn bytes b.word.now (tree_verdict v)) is on.verdict, (refl, refl))
       )
       )
 
   refused_varied : (books : List NamedBook) (methods : List Method) (p : NamedBook × Method) (v : NamedBook) (why : RefusedBook) → All (IsReadBook bytes) books
       → Contains (pairs books methods) p → IsVariedOf p v → v.read.verdict ≡ Refused why
-      → Any (IsRefusedOn bytes (subject input.Book (book_code why))) (columns (map word_of books) methods)
+      → Any (IsRefusedOn bytes (book_line (refusal_of why)) (subject input.Book (book_code why))) (columns (map word_of books) methods)
   refused_varied books methods p v why read there (book, good, by) is =
+      let line = book_line (refusal_of why) in
       let s = subject input.Book (book_code why) in
       let on : IsReadBook bytes p.0 = subst (λ (q : NamedBook × Method). IsReadBook bytes q.0) there.2 (read_pairs books methods read there.0 p there.1) in
-      subst (Any (IsRefusedOn bytes s)) (sym (columns_all books methods))
+      subst (Any (IsRefusedOn bytes line s)) (sym (columns_all books methods))
       (
-      any_right (IsRefusedOn bytes s) (map (λ (b : NamedBook). plain (word_of b)) books) (map changed (pairs books methods))
+      any_right (IsRefusedOn bytes line s) (map (λ (b : NamedBook). plain (word_of b)) books) (map changed (pairs books methods))
       (
-      any_map (IsRefusedOn bytes s) changed (pairs books methods) p there (
+      any_map (IsRefusedOn bytes line s) changed (pairs books methods) p there (
         book_of book.book,
         why,
-        subst (λ v. IsVerdictOn bytes p.0.word.now (tree_verdict v)) good on.1,
+        subst (λ v. IsVerdictOn bytes p.0.word.now (tree_verdict v)) good on.verdict,
         subst (λ v. IsTreeVerdictBy p.1 (book_of book.book) (tree_verdict v)) is by.verdict,
-        refl,
+        (refl, refl),
       )
       )
       )
@@ -230,91 +233,68 @@ module _ (bytes : List ℕ → Option (List ℕ)) where
   -- ---- an answer, by the words and the bytes
 
   module _ (IsText : Shape → Heading → Answer → List ℕ → Type 0) (style : Style) (returns : List ℕ) (names : Option (List ℕ)) (is_refused : Bool) (are : AreNames bytes names is_refused)
-      (a : Answered) where
-    abbrev pub Says : Said → Type 0
+      (words methods : List (List ℕ)) (books : List NamedBook) (r : NamedReturns) (of : map word_of books ≡ compared_words words) (read : All (IsReadBook bytes) books)
+      (judged : AreReadOf (bytes returns) r) (a : Answered) where
+    abbrev Says : Said → Type 0
     Says s = IsSaid style.language s a.said.items
 
-    sheets_on : (books methods : List (List ℕ)) (Shows : Status → List Table → Type 0) (s : Said) → IsSheets IsText style Shows s a
-        → ((tables : List Table) → Shows a.status tables → Says s → IsComparison bytes returns (columns (compared_words books) (methods_written methods)) is_refused a.status tables Says)
-        → IsComparisonOf IsText bytes returns books methods names style a.status a.text.items Says
-    sheets_on books methods Shows s h by =
+    abbrev shown : List (List ℕ)
+    shown = json_digests style (called_digests books r)
+
+    sheets_on : (Shows : Answer → Type 0) (s : Said) → IsSheets IsText style shown Shows s a
+        → ((answer : Answer) → Shows answer → Says s → IsComparison bytes returns (columns (compared_words words) (methods_written methods)) is_refused answer Says)
+        → IsComparisonOf IsText bytes returns words methods names style a.status a.text.items Says
+    sheets_on Shows s h by =
         record {
           answer = h.answer;
           status = h.status;
           is_refused = is_refused;
           named = are;
-          tables = by (map table_of h.answer.sheets.items) h.tables h.said;
-          digests = h.digests;
+          means = by h.answer h.shows h.said;
+          digests = called_digests books r;
+          digested =
+              subst (λ ws. ForKnown (named_inputs bytes ws) (bytes returns) (λ inputs known. called_digests books r ≡ compared_digests inputs known)) of
+              (digests_on bytes books r (bytes returns) read judged);
           written = h.written;
         }
 
-    pub compared_on : (words methods : List (List ℕ)) (books : List NamedBook) (v : Verdict Election RefusedElection) → map word_of books ≡ compared_words words → All (IsReadBook bytes) books
-        → AreJudged (bytes returns) (election_verdict v) → IsComparedAnswer IsText style is_refused books (methods_written methods) v a
-        → IsComparisonOf IsText bytes returns words methods names style a.status a.text.items Says
-    compared_on words methods books v of read judged (inl (e, good, all, inl (varied, by, too, sheets))) =
-        sheets_on words methods (ShowsNamed is_refused e (books ++ varied)) (table_said is_refused e) sheets
+    -- a refusal
+    refuses_on : (line : List ℕ) (s : Subject) → AreRefused (bytes returns) line s ⊎ Any (IsRefusedOn bytes line s) (columns (map word_of books) (methods_written methods))
+        → IsSheets IsText style shown (IsRefusedBy line) (fault s) a → IsComparisonOf IsText bytes returns words methods names style a.status a.text.items Says
+    refuses_on line s which sheets =
+        sheets_on (IsRefusedBy line) (fault s) sheets
         (
-        λ tables shows says.
+        λ answer refuses says.
+        inr (line, s, subst (λ ws. AreRefused (bytes returns) line s ⊎ Any (IsRefusedOn bytes line s) (columns ws (methods_written methods))) of which, refuses, says)
+        )
+
+    pub compared_on : IsComparedAnswer IsText style shown is_refused books (methods_written methods) r.read.verdict a
+        → IsComparisonOf IsText bytes returns words methods names style a.status a.text.items Says
+    compared_on (inl (e, good, all, inl (varied, by, too, sheets))) =
+        sheets_on (ShowsNamed is_refused e (books ++ varied)) (table_said is_refused e) sheets
+        (
+        λ answer shows says.
         inl (
           e,
-          subst (λ w. AreJudged (bytes returns) (election_verdict w)) good judged,
-          subst (λ ws. ShowsBooks bytes (columns ws (methods_written methods)) is_refused e a.status tables) of
-              (shows_on is_refused e books varied (methods_written methods) a.status tables read by shows),
+          subst (λ w. AreJudged (bytes returns) (election_verdict w)) good judged.verdict,
+          subst (λ ws. ShowsBooks bytes (columns ws (methods_written methods)) is_refused e answer) of
+              (shows_on is_refused e books varied (methods_written methods) answer read by shows),
           says,
         )
         )
-    compared_on words methods books v of read judged (inl (e, good, all, inr (p, n, why, there, by, is, sheets))) =
-        sheets_on words methods IsRefusal (fault (subject input.Book (book_code why))) sheets
-        (
-        λ tables shows says.
-        inr (
-          shows,
-          (
-            subject input.Book (book_code why),
-            inr
-                (
-                subst (λ ws. Any (IsRefusedOn bytes (subject input.Book (book_code why))) (columns ws (methods_written methods))) of
-                (refused_varied books (methods_written methods) p n why read there by is)
-                ),
-            says,
-          ),
-        )
-        )
-    compared_on words methods books v of read judged (inr (inl (b, why, there, is, sheets))) =
-        sheets_on words methods IsRefusal (fault (subject input.Book (book_code why))) sheets
-        (
-        λ tables shows says.
-        inr (
-          shows,
-          (
-            subject input.Book (book_code why),
-            inr
-                (
-                subst (λ ws. Any (IsRefusedOn bytes (subject input.Book (book_code why))) (columns ws (methods_written methods))) of
-                (refused_book books (methods_written methods) b why read there is)
-                ),
-            says,
-          ),
-        )
-        )
-    compared_on words methods books v of read judged (inr (inr (why, is, sheets))) =
-        sheets_on words methods IsRefusal (fault (subject input.Returns (election_code why))) sheets
-        (
-        λ tables shows says.
-        inr (
-          shows,
-          (
-            subject input.Returns (election_code why),
-            inl (why, subst (λ w. AreJudged (bytes returns) (election_verdict w)) is judged, refl),
-            says,
-          ),
-        )
-        )
+    compared_on (inl (e, good, all, inr (p, n, why, there, by, is, sheets))) =
+        refuses_on (book_line (refusal_of why)) (subject input.Book (book_code why)) (inr (refused_varied books (methods_written methods) p n why read there by is)) sheets
+    compared_on (inr (inl (b, why, there, is, sheets))) =
+        refuses_on (book_line (refusal_of why)) (subject input.Book (book_code why)) (inr (refused_book books (methods_written methods) b why read there is)) sheets
+    compared_on (inr (inr (why, is, sheets))) =
+        refuses_on (returns_line (returns_refusal_of why)) (subject input.Returns (election_code why))
+        (inl (why, subst (λ w. AreJudged (bytes returns) (election_verdict w)) is judged.verdict, refl, refl)) sheets
 
 -- ---- what is said of a table
 
-pub comparison_warns : (bytes : List ℕ → Option (List ℕ)) (returns : List ℕ) (all : List (List ℕ × Option Method)) (is_refused : Bool) (ends : Status) (tables : List Table)
-    (language : Language) (text : List ℕ) → IsComparison bytes returns all is_refused ends tables (λ s. IsSaid language s text) → ends ≡ status.Done → AreWarnings language text
-comparison_warns bytes returns all false ends tables language text (inl (e, on, shows, says)) done = (warnings_of None e, says)
-comparison_warns bytes returns all true ends tables language text (inl (e, on, shows, says)) done = absurd cc
-comparison_warns bytes returns all is_refused ends tables language text (inr (refusal, told)) done = absurd cc
+pub comparison_warns : (bytes : List ℕ → Option (List ℕ)) (returns : List ℕ) (all : List (List ℕ × Option Method)) (is_refused : Bool) (a : Answer) (language : Language) (text : List ℕ)
+    → IsComparison bytes returns all is_refused a (λ s. IsSaid language s text) → a.status ≡ status.Done → AreWarnings language text
+comparison_warns bytes returns all false a language text (inl (e, on, shows, says)) done = (warnings_of None e, says)
+comparison_warns bytes returns all true a language text (inl (e, on, shows, says)) done = let no : status.Refused ≡ status.Done = sym shows.0 ∙ done in absurd cc
+comparison_warns bytes returns all is_refused a language text (inr (line, s, which, refuses, says)) done =
+    let no : status.Refused ≡ status.Done = sym refuses.0.0 ∙ done in absurd cc

@@ -1,6 +1,7 @@
 mod Answering
 mod Columns
-mod Known
+mod Digested
+mod Failing
 mod LibraryWords
 mod Reported
 mod Warned

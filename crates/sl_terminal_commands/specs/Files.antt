@@ -1,9 +1,12 @@
 -- What a request does to files (docs/output.md).
 use Rattle.std.specs.Str.{bytes_eq}
-use Rattle.std.specs.Prelude.{Bool, List, None, Option, Some, [], codes, false, length, nat_eq, nat_lt, not, take, true, ⊤, ◌++◌, ◌||◌, ◌∷◌, ◌≡◌, ◌≢◌, ℕ}
+use Rattle.std.specs.Prelude.{Bool, IfSome, List, None, Option, Some, [], codes, false, length, nat_eq, nat_lt, not, take, true, ⊤, ◌++◌, ◌||◌, ◌∷◌, ◌≡◌, ◌≢◌, ◌⊎◌, ℕ}
+use Rattle.sl_count_inputs.specs.Books.{BookInput}
+use Rattle.sl_count_inputs.specs.Texts.{bytes_of}
 use Rattle.sl_count_inputs.specs.declared.input.Bytes.TheVariants.{TooLong, Whole}
 use Rattle.sl_count_inputs.specs.declared.input.Bytes.{Bytes}
 use Rattle.sl_count_inputs.specs.declared.limits.TheConstants.{MAX_CODE_BYTES}
+use Rattle.sl_terminal_outside.specs.Inputs.{named_input}
 use Rattle.sl_terminal_words.specs.declared.command_line.Request.TheVariants.{Code}
 use Rattle.sl_terminal_words.specs.declared.command_line.Request.{Request}
 
@@ -28,6 +31,15 @@ MustStay (Some known) is_forced = (is_forced ≡ false) × ((nat_lt MAX_CODE_BYT
 abbrev pub Loses : (List ℕ → Option (List ℕ)) → Request → Type 0
 Loses bytes (Code book file is_forced) = MustStay (bytes file.now) is_forced
 Loses bytes _ = ⊥
+
+-- why no code is written to a file, where its bytes are known: it must stay, or it has those of the rulebook
+abbrev pub IsSpared : (known : Option (List ℕ)) → Option BookInput → (is_forced : Bool) → Type 0
+IsSpared known input is_forced = IfSome known (λ file. MustStay (Some file) is_forced ⊎ IfSome input (λ i. file ≡ bytes_of i))
+
+-- a request is not completed, so that such a file is not lost
+abbrev pub Spares : (List ℕ → Option (List ℕ)) → Request → Type 0
+Spares bytes (Code book file is_forced) = IsSpared (bytes file.now) (named_input bytes book.now) is_forced
+Spares bytes _ = ⊥
 
 -- the path that a request makes a file at
 abbrev pub made_at : Request → Option (List ℕ)

@@ -1,8 +1,6 @@
 -- What each request answers, what is said of it, and how it is written.
 pub mod Beside
 pub mod Comparisons
-pub mod Digested
-pub mod Failures
 pub mod Files
 pub mod Given
 pub mod Replies

@@ -1,22 +1,24 @@
 -- What words come to (docs/output.md, section 3).
 use Rattle.std.specs.Option.{option_map}
-use Rattle.std.specs.Prelude.{Bool, Err, List, None, Ok, Option, Result, [], if◌then◌else◌, string_bytes, unwrap_or, ◌≡◌, ◌⊎◌, ℕ}
+use Rattle.std.specs.Prelude.{Bool, Err, List, None, Ok, Option, [], if◌then◌else◌, string_bytes, unwrap_or, ◌≡◌, ◌⊎◌, ℕ}
 use Rattle.sl_count_inputs.specs.Statuses.{status_number}
 use Rattle.sl_explain_texts.specs.declared.code.FaultCode.{FaultCode}
 use Rattle.sl_explain_texts.specs.declared.language.Language.{Language}
 use Rattle.sl_report_forms.specs.declared.heading.Heading.{Heading}
 use Rattle.sl_report_tables.specs.declared.answer.Answer.{Answer as Sheets}
 use Rattle.sl_report_tables.specs.declared.answer.Shape.{Shape}
-use Rattle.sl_terminal_commands.specs.Files.{made_at}
+use Rattle.sl_terminal_commands.specs.Files.{Spares, made_at}
 use Rattle.sl_terminal_commands.specs.Requests.{IsAnswerTo}
 use Rattle.sl_terminal_commands.specs.declared.answered.Answered.{Answered}
 use Rattle.sl_terminal_commands.specs.declared.reply.Made.{Made}
 use Rattle.sl_terminal_commands.specs.declared.reply.Reply.{Reply}
 use Rattle.sl_terminal_commands.specs.declared.telling.Said.TheVariants.{Fixed, OutOfMemory, Text}
 use Rattle.sl_terminal_commands.specs.declared.telling.Said.{Said}
+use Rattle.sl_terminal_words.specs.Answers.{IsAnswerTo as IsAskedBy}
 use Rattle.sl_terminal_words.specs.declared.answers.Answer.TheVariants.{NoMemory, Refused, Shown}
 use Rattle.sl_terminal_words.specs.declared.answers.Answer.{Answer}
 use Rattle.sl_terminal_words.specs.declared.command_line.Asked.{Asked}
+use Rattle.sl_terminal_words.specs.declared.command_line.Request.{Request}
 
 -- what is said has these bytes
 abbrev pub Says : Said → List ℕ → Type 0
@@ -40,8 +42,8 @@ pub record IsReplied (is_quiet : Bool) (path : Option (List ℕ)) (a : Answered)
   pub made : option_map file_of r.made ≡ option_map (λ path. (path, a.made.items)) path
 
 -- the reply where there is no answer: 1 where a file would be lost, 5 after an error; standard output gets nothing, and no file is made
-pub record IsStopped (r : Reply) : Type 0 where
-  pub number : (r.number ≡ 1) ⊎ (r.number ≡ 5)
+pub record IsStopped (bytes : List ℕ → Option (List ℕ)) (request : Request) (r : Reply) : Type 0 where
+  pub number : ((r.number ≡ 1) × Spares bytes request) ⊎ (r.number ≡ 5)
   pub out : r.out.items ≡ []
   pub made : r.made ≡ None
 
@@ -57,12 +59,10 @@ module _ (IsText : Shape → Heading → Sheets → List ℕ → Type 0) (IsAbou
   abbrev pub IsReplyOf : Asked → Reply → Type 0
   IsReplyOf asked r =
       ((a : Answered) × IsAnswerTo IsText IsAbout (unwrap_or asked.options.language language) bytes asked.request a × IsReplied asked.options.is_quiet (made_at asked.request) a r)
-      ⊎ IsStopped r
+      ⊎ IsStopped bytes asked.request r
 
--- and besides by what words ask for: that is replied to, or what is said of the words
-module _ (IsText : Shape → Heading → Sheets → List ℕ → Type 0) (IsAsked : Language → List (List ℕ) → Result Asked Answer → Type 0) (IsAbout : Language → FaultCode → List ℕ → Type 0)
-    (language : Language) (bytes : List ℕ → Option (List ℕ)) where
+  -- to words: to what they ask for, or what is said of them
   abbrev pub IsReplyTo : List (List ℕ) → Reply → Type 0
   IsReplyTo words r =
-      ((asked : Asked) × IsAsked language words (Ok asked) × IsReplyOf IsText IsAbout language bytes asked r)
-      ⊎ ((answer : Answer) × IsAsked language words (Err answer) × IsSaidOf answer r)
+      ((asked : Asked) × IsAskedBy language words (Ok asked) × IsReplyOf asked r)
+      ⊎ ((answer : Answer) × IsAskedBy language words (Err answer) × IsSaidOf answer r)

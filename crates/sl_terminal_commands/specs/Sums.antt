@@ -1,19 +1,16 @@
--- What rulebooks and returns come to that are read, and of which fault totals tell (docs/report.md).
+-- What rulebooks and returns come to that words name (docs/report.md).
 use Rattle.std.specs.Option.{option_map}
 use Rattle.std.specs.Prelude.{IfSome, List, None, Option, Some, ℕ}
 use Rattle.sl_count_inputs.specs.Books.{BookInput, IsBookVerdict}
-use Rattle.sl_count_inputs.specs.Judging.{election_verdict, tree_verdict}
+use Rattle.sl_count_inputs.specs.Judging.{tree_verdict}
 use Rattle.sl_count_inputs.specs.Returns.{IsReturnsVerdict}
 use Rattle.sl_count_inputs.specs.declared.refusal.BookRefusal.{BookRefusal}
 use Rattle.sl_count_inputs.specs.declared.refusal.ReturnsRefusal.{ReturnsRefusal}
 use Rattle.sl_count_inputs.specs.declared.refused_book.RefusedBook.{RefusedBook}
-use Rattle.sl_count_inputs.specs.declared.refused_election.RefusedElection.{RefusedElection}
 use Rattle.sl_count_inputs.specs.declared.verdict.Verdict.{Verdict}
 use Rattle.sl_law_meaning.specs.book.Trees.{BookTree}
 use Rattle.sl_law_meaning.specs.declared.checked.CheckedBook.{CheckedBook}
 use Rattle.sl_law_meaning.specs.returns.Election.{Election}
-use Rattle.sl_report_commands.specs.Written.{totals_subject}
-use Rattle.sl_terminal_commands.specs.Said.{Said, said_of}
 use Rattle.sl_terminal_outside.specs.Inputs.{named_input}
 
 -- what the rulebook that a word names comes to, where its bytes are known
@@ -37,9 +34,3 @@ IsGivenVerdict bytes None None = Unit {0}
 IsGivenVerdict bytes (Some word) (Some verdict) = IsVerdictOn bytes word (tree_verdict verdict)
 IsGivenVerdict bytes None (Some verdict) = ⊥
 IsGivenVerdict bytes (Some word) None = ⊥
-
--- what is told is of what the rulebook and the returns come to: the first that is refused, if one is
-abbrev pub IsOfTotals : (List ℕ → Option (List ℕ)) → List ℕ → (word : Option (List ℕ)) → (Said → Type 0) → Type 0
-IsOfTotals bytes returns word Says =
-    (book : Option (Verdict CheckedBook RefusedBook)) × (v : Verdict Election RefusedElection) × IsGivenVerdict bytes word book
-    × AreJudged (bytes returns) (election_verdict v) × Says (said_of (totals_subject book v))

@@ -1,5 +1,4 @@
 -- What is told of each request on standard error: the fault that it met, or warnings of what it counted.
-use Rattle.std.specs.Option.{option_map}
 use Rattle.std.specs.Prelude.{Bool, IfSome, List, None, Option, Some, false, true, ℕ}
 use Rattle.sl_count_calls.specs.Judged.{IsJudged}
 use Rattle.sl_count_calls.specs.declared.judged.Judged.{Judged}
@@ -17,10 +16,8 @@ use Rattle.sl_count_inputs.specs.declared.status.Input.TheVariants as input
 use Rattle.sl_count_inputs.specs.declared.verdict.Verdict.{Verdict}
 use Rattle.sl_terminal_outside.specs.Inputs.{named_input}
 use Rattle.sl_law_meaning.specs.declared.checked.CheckedBook.{CheckedBook}
-use Rattle.sl_terminal_commands.specs.Beside.{AreBeside}
-use Rattle.sl_terminal_commands.specs.Said.{Said, fault, judged_said, nothing, report_said, said_of}
+use Rattle.sl_terminal_commands.specs.Said.{Said, fault, judged_said, nothing, said_of}
 use Rattle.sl_laws.specs.Books.{law_text}
-use Rattle.sl_terminal_commands.specs.Sums.{IsOfTotals}
 use Rattle.sl_terminal_words.specs.declared.command_line.Request.TheVariants as asked
 use Rattle.sl_terminal_words.specs.declared.command_line.Request.{Request}
 use Rattle.sl_terminal_words.specs.declared.command_line.Show.TheVariants.{Stage, Steps}
@@ -50,20 +47,6 @@ abbrev pub IsOfRun : (List ℕ → Option (List ℕ)) → List ℕ → List ℕ 
 IsOfRun bytes code returns Says =
     (judged : JudgedRun) × ForKnown (bytes code) (bytes returns) (λ file known. IsJudgedRun file known judged) × Says (said_of (run_subject judged))
 
--- of a report of one count: as of that count, or where the names of a count or an earlier table are refused nothing
-abbrev pub IsOfReport : (List ℕ → Option (List ℕ)) → List ℕ → List ℕ → (names earlier : Option (List ℕ)) → (Said → Type 0) → Type 0
-IsOfReport bytes book returns names earlier Says =
-    (is_refused : Bool) × (judged : Judged) × AreBeside bytes names earlier is_refused
-    × ForKnown (named_input bytes book) (bytes returns) (λ input known. IsJudged records.Kept None input known judged) × Says (report_said is_refused judged)
-
--- of rulebooks side by side it goes with the tables (`IsComparison`)
-abbrev pub IsOfWhat : (List ℕ → Option (List ℕ)) → Report → (names : Option (List ℕ)) → (Said → Type 0) → Type 0
-IsOfWhat bytes (what.Count book returns) names Says = IsOfReport bytes book.now returns.now names None Says
-IsOfWhat bytes (what.Short book returns before) names Says = IsOfReport bytes book.now returns.now names (option_map (λ path. path.now) before) Says
-IsOfWhat bytes (what.Stages book returns) names Says = IsOfReport bytes book.now returns.now names None Says
-IsOfWhat bytes (what.Totals returns book) names Says = IsOfTotals bytes returns.now (option_map (λ word. word.now) book) Says
-IsOfWhat bytes (what.Compare returns books methods) names Says = Unit {0}
-
 -- of the name of a statute: that there is none of that name, where there is none
 abbrev pub text_said : (source : Option (List ℕ)) → Said
 text_said (Some source) = nothing
@@ -72,7 +55,7 @@ text_said None = fault (subject input.Book (Some B01))
 abbrev pub law_said : List ℕ → Said
 law_said name = text_said (law_text name)
 
--- of a request: of the fault that it met
+-- of a request: of the fault that it met; of a report it goes with the tables (`IsReported`)
 abbrev pub IsOfFault : (List ℕ → Option (List ℕ)) → Request → (Said → Type 0) → Type 0
 IsOfFault bytes (asked.Count show book returns) Says = IsOfCount bytes (shown_records show) (shown_stage show) book.now returns.now Says
 IsOfFault bytes (asked.Check book) Says = IsOfBook bytes book.now Says
@@ -80,7 +63,7 @@ IsOfFault bytes (asked.Code book file is_forced) Says = IsOfBook bytes book.now 
 IsOfFault bytes (asked.Run code returns) Says = IsOfRun bytes code.now returns.now Says
 IsOfFault bytes (asked.Law name) Says = Says (law_said name.now)
 IsOfFault bytes (asked.Explain code) Says = Says nothing
-IsOfFault bytes (asked.Report what form names) Says = IsOfWhat bytes what (option_map (λ path. path.now) names) Says
+IsOfFault bytes (asked.Report what form names) Says = Unit {0}
 
 -- requests that warn of what they count
 abbrev pub warns_of : Report → Bool

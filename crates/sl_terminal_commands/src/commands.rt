@@ -20,6 +20,7 @@ ghost use Rattle.sl_terminal_outside.specs.Inputs.{named_input};
 ghost use Rattle.sl_terminal_commands.specs.Requests.{IsAnswerTo, IsShown};
 ghost use Rattle.sl_terminal_commands.specs.Said.{AreWarnings, IsSaid, fault, judged_said, said_of};
 ghost use Rattle.sl_terminal_commands.specs.Tellings.{IsOfBook, IsOfCount, IsOfRun, law_said, shown_records, shown_stage};
+ghost use Rattle.sl_terminal_commands.specs.inner.Outcomes.{IsAnswered, IsOutcomeOf};
 
 use crate::answered::{
     Answered, ReadFile, alone, check_text, count_text, explained_text, run_text, with_said,
@@ -30,7 +31,7 @@ use sl_base_quotients::NoMemory;
 use sl_count_calls::{Answer, Read, View, answer_of, judge_read};
 use sl_count_inputs::{Input, ReadBook, RefusedBook, Status, refused};
 use sl_desk::{ReadRun, check_answer, judge_run, run_answer};
-use sl_explain_calls::explain_book;
+use sl_explain_calls::{Lost, explain_book};
 use sl_explain_texts::{FaultCode, Language};
 use sl_laws::law;
 use sl_report_commands::Forms;
@@ -136,6 +137,27 @@ fn law_answered(alloc: Global, language: Language, name: &str) -> Result<Answere
             Ok(alone(alloc, Status::Done, text))
         }
         None => unknown_answered(alloc, language, name),
+    }
+}
+
+/// What a request comes to.
+#[derive(Drop)]
+pub(crate) enum Outcome<'a> {
+    /// It is answered.
+    Answered(Answered),
+    /// It would lose the file at a path.
+    Spared(&'a str, Lost),
+}
+
+// An answer, if there is one.
+fn answered<'a, E: Drop>(
+    given: Result<Answered, Failure<'a, E>>,
+) -> Result<Outcome<'a>, Failure<'a, E>>
+    ensures { IsAnswered given.entry result }
+{
+    match given {
+        Ok(answered) => Ok(Outcome::Answered(answered)),
+        Err(failure) => Err(failure),
     }
 }
 
@@ -290,31 +312,33 @@ impl<O: Outside> Commands<'_, O> {
         Ok(law_answered(self.alloc, self.language, name)?)
     }
 
-    /// What a request answers, from the files that it names. Nothing is written.
+    /// What a request comes to, from the files that it names. Nothing is written.
     pub(crate) fn answer<'a, F: Forms, S: Speech>(
         &self,
         forms: &F,
         speech: &S,
         request: Request<'a>,
-    ) -> Result<Answered, Failure<'a, O::Reason>>
-        ensures { IfOk result (IsAnswerTo (F.is_text forms.now) (S.is_about speech.now) self.now.language (O.bytes self.now.outside.now) request.entry) }
+    ) -> Result<Outcome<'a>, Failure<'a, O::Reason>>
+        ensures { IfOk result (IsOutcomeOf (F.is_text forms.now) (S.is_about speech.now) self.now.language (O.bytes self.now.outside.now) request.entry) }
     {
         match request {
             Request::Count {
                 show,
                 book,
                 returns,
-            } => self.show_count(show, book, returns),
-            Request::Check { book } => self.check(book),
+            } => answered(self.show_count(show, book, returns)),
+            Request::Check { book } => answered(self.check(book)),
             Request::Code {
                 book,
                 file,
                 is_forced,
             } => self.code(book, file, is_forced),
-            Request::Run { code, returns } => self.run_code(code, returns),
-            Request::Law { name } => self.law(name),
-            Request::Explain { code } => self.explain(speech, code),
-            Request::Report { what, form, names } => self.report(forms, &what, form, names),
+            Request::Run { code, returns } => answered(self.run_code(code, returns)),
+            Request::Law { name } => answered(self.law(name)),
+            Request::Explain { code } => answered(self.explain(speech, code)),
+            Request::Report { what, form, names } => answered(self.report(
+                forms, &what, form, names,
+            )),
         }
     }
 }

@@ -1,13 +1,12 @@
 //! What putting rulebooks that were read side by side on returns answers.
 
-ghost use Rattle.std.specs.Prelude.{IfOk, is_err, map};
-ghost use Rattle.sl_count_inputs.specs.declared.status.Input.TheVariants as input;
+ghost use Rattle.std.specs.Prelude.{IfOk, false, is_err};
 ghost use Rattle.sl_count_inputs.specs.declared.verdict.Verdict.TheVariants.{Refused};
-ghost use Rattle.sl_explain_calls.specs.Codes.{election_code, subject, subject_of};
-ghost use Rattle.sl_report_forms.specs.Tables.{table_of};
+ghost use Rattle.sl_explain_calls.specs.Codes.{subject_of};
+ghost use Rattle.sl_report_commands.specs.Digests.{digests};
 ghost use Rattle.sl_terminal_commands.specs.Comparisons.{table_said};
 ghost use Rattle.sl_terminal_commands.specs.Said.{IsSaid};
-ghost use Rattle.sl_terminal_commands.specs.inner.Comparing.{AreGood, HasColumns, IsColumnOf, IsComparedAnswer, IsNamedAnswer, IsRefusedAnswer, IsRefusedBookAnswer, IsRefusedOne, IsVariedAnswer, ShowsColumns, ShowsNamed};
+ghost use Rattle.sl_terminal_commands.specs.inner.Comparing.{AreGood, HasColumns, IsColumnOf, IsComparedAnswer, IsNamedAnswer, IsRefusedAnswer, IsRefusedBookAnswer, IsRefusedOne, IsRefusedReturnsAnswer, IsVariedAnswer, ShowsNamed};
 
 use crate::answered::{Answered, ReadFile, explained_text, warnings_text};
 use crate::manner::Manner;
@@ -56,7 +55,7 @@ fn compared(
     full: &FullNames,
     language: Language,
 ) -> Result<Answer, NoMemory>
-    ensures { AreGood books.entry.items → IfOk result (λ a. ShowsColumns returns.now books.entry.items a.status (map table_of a.sheets.items)) }
+    ensures { AreGood books.entry.items → IfOk result (ShowsNamed false returns.now books.entry.items) }
 {
     let columns = columns_of(alloc, books)?;
     compare_judged(alloc, columns, returns, full, language)
@@ -70,7 +69,7 @@ fn comparison(
     names: Result<FullNames, Answer>,
     language: Language,
 ) -> Result<Answer, NoMemory>
-    ensures { AreGood books.entry.items → IfOk result (λ a. ShowsNamed (is_err names) election.now books.entry.items a.status (map table_of a.sheets.items)) }
+    ensures { AreGood books.entry.items → IfOk result (ShowsNamed (is_err names) election.now books.entry.items) }
 {
     match names {
         Ok(full) => compared(alloc, books, election, &full, language),
@@ -102,7 +101,7 @@ fn finish_comparison<F: Forms>(
     names: Result<FullNames, Answer>,
     manner: &Manner<'_, F>,
 ) -> Result<Answered, NoMemory>
-    ensures { AreGood books.entry.items → IfOk result (IsNamedAnswer (F.is_text manner.now.forms.now) manner.now.style (is_err names) election.now books.entry.items) }
+    ensures { AreGood books.entry.items → IfOk result (IsNamedAnswer (F.is_text manner.now.forms.now) manner.now.style (digests manner.now.inputs.now) (is_err names) election.now books.entry.items) }
 {
     let (language, is_refused) = (manner.style.language, names.is_err());
     let answer = comparison(alloc, books, election, names, language)?;
@@ -118,7 +117,7 @@ fn refused_answered<F: Forms>(
     file: ReadFile<'_>,
     manner: &Manner<'_, F>,
 ) -> Result<Answered, NoMemory>
-    ensures { IfOk result (IsRefusedAnswer (F.is_text manner.now.forms.now) manner.now.style (subject_of explained.now)) }
+    ensures { IfOk result (IsRefusedAnswer (F.is_text manner.now.forms.now) manner.now.style (digests manner.now.inputs.now) line.items (subject_of explained.now)) }
 {
     let answer = Answer::refused(alloc, line);
     let said = explained_text(alloc, manner.style.language, &[file], explained)?;
@@ -131,7 +130,7 @@ fn refuse_book<F: Forms>(
     first: FirstRefused<'_, '_>,
     manner: &Manner<'_, F>,
 ) -> Result<Answered, NoMemory>
-    ensures { IfOk result (IsRefusedBookAnswer (F.is_text manner.now.forms.now) manner.now.style first.entry.refused.now) }
+    ensures { IfOk result (IsRefusedBookAnswer (F.is_text manner.now.forms.now) manner.now.style (digests manner.now.inputs.now) first.entry.refused.now) }
 {
     let file = ReadFile {
         input: Input::Book,
@@ -150,7 +149,7 @@ fn refuse_returns<F: Forms>(
     refused: &RefusedElection,
     manner: &Manner<'_, F>,
 ) -> Result<Answered, NoMemory>
-    ensures { IfOk result (IsRefusedAnswer (F.is_text manner.now.forms.now) manner.now.style (subject input.Returns (election_code refused.now))) }
+    ensures { IfOk result (IsRefusedReturnsAnswer (F.is_text manner.now.forms.now) manner.now.style (digests manner.now.inputs.now) refused.now) }
 {
     let file = ReadFile {
         input: Input::Returns,
@@ -170,7 +169,7 @@ fn refuse_comparison<F: Forms>(
     refused: &RefusedElection,
     manner: &Manner<'_, F>,
 ) -> Result<Answered, NoMemory>
-    ensures { IfOk result (IsRefusedOne (F.is_text manner.now.forms.now) manner.now.style books.now (Refused refused.now)) }
+    ensures { IfOk result (IsRefusedOne (F.is_text manner.now.forms.now) manner.now.style (digests manner.now.inputs.now) books.now (Refused refused.now)) }
 {
     if let Some(book) = books.first()
         && let Verdict::Refused(refused) = &book.read.verdict
@@ -195,7 +194,7 @@ fn compare_varied<F: Forms>(
     manner: &Manner<'_, F>,
 ) -> Result<Answered, NoMemory>
     requires { AreGood books.items }
-    ensures { IfOk result (IsVariedAnswer (F.is_text manner.now.forms.now) manner.now.style (is_err names) books.entry.items methods.now election.now) }
+    ensures { IfOk result (IsVariedAnswer (F.is_text manner.now.forms.now) manner.now.style (digests manner.now.inputs.now) (is_err names) books.entry.items methods.now election.now) }
 {
     let varied = all_varied(alloc, books.as_slice(), methods)?;
     match first_refused(varied.as_slice()) {
@@ -217,7 +216,7 @@ pub(crate) fn compare<F: Forms>(
     names: Result<FullNames, Answer>,
     manner: &Manner<'_, F>,
 ) -> Result<Answered, NoMemory>
-    ensures { IfOk result (IsComparedAnswer (F.is_text manner.now.forms.now) manner.now.style (is_err names) books.entry.items methods.now returns.now.read.verdict) }
+    ensures { IfOk result (IsComparedAnswer (F.is_text manner.now.forms.now) manner.now.style (digests manner.now.inputs.now) (is_err names) books.entry.items methods.now returns.now.read.verdict) }
 {
     match &returns.read.verdict {
         Verdict::Good(election) => match first_refused(books.as_slice()) {

@@ -2,7 +2,6 @@
 
 ghost use Rattle.std.specs.Prelude.{◌≡◌};
 ghost use Rattle.sl_count_inputs.specs.declared.status.DeskError.TheVariants as fault;
-ghost use Rattle.sl_terminal_commands.specs.Failures.{failure_number};
 ghost use Rattle.sl_terminal_commands.specs.declared.failure.Failure.TheVariants as failure;
 
 use sl_base_quotients::NoMemory;
@@ -17,24 +16,8 @@ pub enum Failure<'a, E> {
     Unopened(Unopened<'a, E>),
     /// A file could not be made, for a reason of the system.
     Unmade { path: &'a str, reason: E },
-    /// The file that was to be written is no code file, and would be lost.
-    Kept(&'a str),
-    /// It has the bytes of the rulebook that is compiled.
-    Same(&'a str),
     /// A call failed.
     Call(DeskError),
-}
-
-impl<E> Failure<'_, E> {
-    /// The exit status: 1 where a file would be lost, and 5 after an error.
-    pub fn number(&self) -> u8
-        ensures { result ≡ failure_number self.now }
-    {
-        match self {
-            Failure::Kept(_) | Failure::Same(_) => 1,
-            Failure::Unopened(_) | Failure::Unmade { .. } | Failure::Call(_) => 5,
-        }
-    }
 }
 
 impl<'a, E> From<Unopened<'a, E>> for Failure<'a, E> {

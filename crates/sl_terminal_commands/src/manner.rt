@@ -1,9 +1,9 @@
 //! How the texts of `compare` are written, and the digests of their inputs.
 
 ghost use Rattle.std.specs.Prelude.{◌≡◌, ◌++◌, IfOk, OnOk, codes, flat_map};
-ghost use Rattle.sl_report_commands.specs.Written.{IsWritten};
+ghost use Rattle.sl_report_commands.specs.Written.{IsWritten, json_digests};
 ghost use Rattle.sl_report_commands.specs.Digests.{digests};
-ghost use Rattle.sl_terminal_commands.specs.Digested.{called_digests, named_digest, read_digest};
+ghost use Rattle.sl_terminal_commands.specs.inner.Digested.{called_digests, named_digest, read_digest};
 
 use crate::answered::Answered;
 use crate::reports::book_bytes;
@@ -104,7 +104,7 @@ pub(crate) fn called_inputs(
     returns: &NamedReturns<'_>,
     style: Style,
 ) -> Result<Vec<DigestedInput>, NoMemory>
-    ensures { IfOk result (λ inputs. digests inputs.items ≡ called_digests style.shape books.now returns.now) }
+    ensures { IfOk result (λ inputs. digests inputs.items ≡ json_digests style (called_digests books.now returns.now)) }
 {
     let mut inputs = Vec::new(alloc);
     if !style.is_json() {

@@ -1,12 +1,13 @@
 //! What the words of a command line come to, as a value: nothing is written here.
 
-ghost use Rattle.std.specs.Prelude.{◌≡◌, ◌⊎◌, IfOk, map, option_map, string_bytes, unwrap_or};
+ghost use Rattle.std.specs.Prelude.{◌≡◌, ◌⊎◌, [], IfOk, None, map, option_map, string_bytes, unwrap_or};
 ghost use Rattle.sl_terminal_commands.specs.Files.{made_at};
 ghost use Rattle.sl_terminal_commands.specs.Replies.{IsReplied, IsReplyOf, IsReplyTo, IsSaidOf, IsStopped, file_of, heard};
 ghost use Rattle.sl_terminal_commands.specs.Requests.{IsAnswerTo};
+ghost use Rattle.sl_terminal_commands.specs.inner.Outcomes.{IsOutcomeOf, RepliesTo};
 
 use crate::answered::Answered;
-use crate::commands::Commands;
+use crate::commands::{Commands, Outcome};
 use crate::failure::Failure;
 use crate::speech::Speech;
 use crate::telling::{Said, Speaker};
@@ -14,7 +15,7 @@ use sl_base_quotients::NoMemory;
 use sl_explain_texts::Language;
 use sl_report_commands::Forms;
 use sl_terminal_outside::Outside;
-use sl_terminal_words::{Answer, Asked, ReportForm, Request, out_of_memory};
+use sl_terminal_words::{Answer, Asked, ReportForm, Request, out_of_memory, request_of};
 use std::alloc::Global;
 use std::fmt::Display;
 
@@ -76,17 +77,40 @@ impl Reply {
 
     // That of a command that was not completed.
     fn stopped<E: Display + Drop>(alloc: Global, failure: Failure<'_, E>, speaker: Speaker) -> Reply
-        ensures { IsStopped result }
+        ensures { (result.number ≡ 5) × (result.out.items ≡ []) × (result.made ≡ None) }
     {
-        let number = failure.number();
         let said = speaker.failure(alloc, &failure);
         drop(failure);
+        Reply::alone(alloc, 5, said, speaker)
+    }
+
+    // One that only says something.
+    fn alone(alloc: Global, number: u8, said: Said, speaker: Speaker) -> Reply
+        ensures { (result.number ≡ number) × (result.out.items ≡ []) × (result.made ≡ None) }
+    {
         Reply {
             number,
             out: Vec::new(alloc),
             said,
             made: None,
             speaker: Some(speaker),
+        }
+    }
+
+    // That of what a request comes to, whose file has this path.
+    fn of_outcome(
+        alloc: Global,
+        path: Option<String>,
+        outcome: Outcome<'_>,
+        speaker: Speaker,
+    ) -> Reply
+        ensures { RepliesTo speaker.is_quiet (option_map string_bytes path) outcome.entry result }
+    {
+        match outcome {
+            Outcome::Answered(answered) => Reply::answered(alloc, path, answered, speaker),
+            Outcome::Spared(path, lost) => {
+                Reply::alone(alloc, 1, speaker.spared(alloc, path, lost), speaker)
+            }
         }
     }
 
@@ -145,19 +169,19 @@ impl<'o, O: Outside> Commands<'o, O> {
         }
     }
 
-    // What a request answers, and the path of the file that it makes.
+    // What a request comes to, and the path of the file that it makes.
     fn answer_made<'a, F: Forms, S: Speech>(
         &self,
         forms: &F,
         speech: &S,
         request: Request<'a>,
-    ) -> Result<(Option<String>, Answered), Failure<'a, O::Reason>>
+    ) -> Result<(Option<String>, Outcome<'a>), Failure<'a, O::Reason>>
         ensures path { IfOk result (λ found. option_map string_bytes found.0 ≡ made_at request.entry) }
-        ensures answer { IfOk result (λ found. IsAnswerTo (F.is_text forms.now) (S.is_about speech.now) self.now.language (O.bytes self.now.outside.now) request.entry found.1) }
+        ensures outcome { IfOk result (λ found. IsOutcomeOf (F.is_text forms.now) (S.is_about speech.now) self.now.language (O.bytes self.now.outside.now) request.entry found.1) }
     {
         let path = path_made(self.alloc, &request)?;
         match self.answer(forms, speech, request) {
-            Ok(answered) => Ok((path, answered)),
+            Ok(outcome) => Ok((path, outcome)),
             Err(failure) => Err(failure),
         }
     }
@@ -171,10 +195,10 @@ impl<'o, O: Outside> Commands<'o, O> {
         speaker: Speaker,
     ) -> Reply
         ensures { ((a : Answered) × IsAnswerTo (F.is_text forms.now) (S.is_about speech.now) self.now.language (O.bytes self.now.outside.now) request.entry a
-            × IsReplied speaker.is_quiet (made_at request.entry) a result) ⊎ IsStopped result }
+            × IsReplied speaker.is_quiet (made_at request.entry) a result) ⊎ IsStopped (O.bytes self.now.outside.now) request.entry result }
     {
         match self.answer_made(forms, speech, request) {
-            Ok((path, answered)) => Reply::answered(self.alloc, path, answered, speaker),
+            Ok((path, outcome)) => Reply::of_outcome(self.alloc, path, outcome, speaker),
             Err(failure) => Reply::stopped(self.alloc, failure, speaker),
         }
     }
@@ -198,9 +222,9 @@ impl<'o, O: Outside> Commands<'o, O> {
 
     // What words come to.
     fn reply_to<F: Forms, S: Speech>(&self, forms: &F, speech: &S, words: &[String]) -> Reply
-        ensures { IsReplyTo (F.is_text forms.now) (S.is_asked speech.now) (S.is_about speech.now) self.now.language (O.bytes self.now.outside.now) (map string_bytes words.now) result }
+        ensures { IsReplyTo (F.is_text forms.now) (S.is_about speech.now) self.now.language (O.bytes self.now.outside.now) (map string_bytes words.now) result }
     {
-        match speech.asked(self.alloc, self.language, words) {
+        match request_of(self.alloc, self.language, words) {
             Ok(asked) => self.reply(forms, speech, asked),
             Err(answer) => Reply::of_words(self.alloc, answer),
         }
@@ -218,7 +242,7 @@ pub fn reply_to<O: Outside, F: Forms, S: Speech>(
     speech: &S,
     words: &[String],
 ) -> Reply
-    ensures { IsReplyTo (F.is_text forms.now) (S.is_asked speech.now) (S.is_about speech.now) language (O.bytes outside.now) (map string_bytes words.now) result }
+    ensures { IsReplyTo (F.is_text forms.now) (S.is_about speech.now) language (O.bytes outside.now) (map string_bytes words.now) result }
 {
     let commands = Commands {
         outside,

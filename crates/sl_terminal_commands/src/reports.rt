@@ -1,9 +1,10 @@
 //! What the commands that report answer, over files: each input is read and judged once, and each rulebook is run once.
 
 ghost use Rattle.std.specs.Borrow.{Bor};
-ghost use Rattle.std.specs.Prelude.{◌≡◌, ◌<◌, ◌^◌, ◌||◌, [], Bool, IfOk, List, None, Option, false, is_err, option_map};
+ghost use Rattle.std.specs.Prelude.{◌≡◌, ◌<◌, ◌^◌, ◌||◌, [], Bool, IfErr, IfOk, List, None, Option, false, is_err, option_map};
 ghost use Rattle.sl_count_calls.specs.Fitting.{FitsJudged};
 ghost use Rattle.sl_count_calls.specs.Judged.{IsJudged};
+ghost use Rattle.sl_count_calls.specs.Reading.{HasTexts};
 ghost use Rattle.sl_explain_calls.specs.Codes.{subject_of};
 ghost use Rattle.sl_law_meaning.specs.declared.count.Records.TheVariants.{Kept};
 ghost use Rattle.sl_count_inputs.specs.Reading.{ForKnown};
@@ -13,11 +14,11 @@ ghost use Rattle.sl_report_commands.specs.Written.{shown_subject};
 ghost use Rattle.sl_report_parties.specs.declared.earlier.EarlierParty.{EarlierParty as Party};
 ghost use Rattle.sl_report_tables.specs.Reports.{beside};
 ghost use Rattle.sl_terminal_commands.specs.Beside.{AreNames};
-ghost use Rattle.sl_terminal_commands.specs.Digested.{word_bytes};
-ghost use Rattle.sl_terminal_commands.specs.Requests.{IsReported, shape_of, style_of};
+ghost use Rattle.sl_terminal_commands.specs.Requests.{IsReportOf, IsReported, shape_of, style_of};
 ghost use Rattle.sl_terminal_commands.specs.Said.{AreWarnings, IsSaid, report_said};
-ghost use Rattle.sl_terminal_commands.specs.Tellings.{IsOfReport, IsOfWhat, warns_of};
-ghost use Rattle.sl_terminal_commands.specs.inner.Reports.{AreBesideIn, IsReadFrom, IsReportAnswer, IsReportBeside, IsReportIn};
+ghost use Rattle.sl_terminal_commands.specs.Tellings.{warns_of};
+ghost use Rattle.sl_terminal_commands.specs.inner.Digested.{word_bytes};
+ghost use Rattle.sl_terminal_commands.specs.inner.Reports.{AreBesideIn, IsReadFrom, IsReportAnswer, IsReportBeside};
 
 use crate::answered::{Answered, counted, files_of, reported, told_text, warnings_text};
 use crate::commands::Commands;
@@ -28,7 +29,7 @@ use sl_count_inputs::{BookText, Bytes, Input, read_all};
 use sl_explain_texts::Language;
 use sl_report_commands::{
     Answer, EarlierParty, Forms, FullNames, MAX_BEFORE_BYTES, MAX_NAMES_BYTES, Shape, Show, Style,
-    Texts, Written, bytes_of, earlier_in, names_in, show_judged,
+    Texts, Written, earlier_in, names_in, show_judged,
 };
 use sl_terminal_outside::{Outside, open, open_book};
 use sl_terminal_words::{Report, ReportForm};
@@ -66,7 +67,7 @@ pub(crate) fn book_bytes<'a>(word: &'a str, read: &'a [u8]) -> &'a [u8]
     ensures { result.now ≡ word_bytes word.now read.now }
 {
     match word.strip_prefix('@') {
-        Some(name) => bytes_of(BookText::Library(name)),
+        Some(name) => BookText::Library(name).bytes(),
         None => read,
     }
 }
@@ -112,16 +113,6 @@ fn said_of_report(
     }
 }
 
-// Whether names are refused.
-fn is_refusal(names: &Result<FullNames, Answer>) -> bool
-    ensures { result ≡ is_err names.now }
-{
-    match names {
-        Ok(_) => false,
-        Err(_) => true,
-    }
-}
-
 // What a report of a count that was read answers.
 fn report_with<F: Forms>(
     forms: &F,
@@ -133,21 +124,14 @@ fn report_with<F: Forms>(
     style: Style,
 ) -> Result<Answered, NoMemory>
     requires fits { FitsJudged Kept read.now.judged }
-    ensures { IfOk result (IsReportAnswer (F.is_text forms.now) show.entry (is_err names.now) read.now.judged style) }
+    ensures { IfOk result (IsReportAnswer (F.is_text forms.now) show.entry (is_err names.now) paths.entry.book.now read.now style) }
 {
     let texts = Texts {
         book: book_bytes(paths.book, read.book.as_slice()),
         returns: read.returns.as_slice(),
     };
     let written = show_judged(forms, alloc, show, &read.judged, names, texts, style)?;
-    match said_of_report(
-        alloc,
-        style.language,
-        is_refusal(names),
-        &written,
-        read,
-        paths,
-    ) {
+    match said_of_report(alloc, style.language, names.is_err(), &written, read, paths) {
         Ok(said) => Ok(reported(alloc, written, said)),
         Err(NoMemory) => Err(NoMemory),
     }
@@ -175,7 +159,7 @@ fn report_beside<F: Forms>(
     style: Style,
 ) -> Result<Answered, NoMemory>
     requires fits { FitsJudged Kept read.now.judged }
-    ensures { IfOk result (IsReportBeside (F.is_text forms.now) show.entry (is_err names) table.now read.now.judged style) }
+    ensures { IfOk result (IsReportBeside (F.is_text forms.now) show.entry (is_err names) table.now paths.entry.book.now read.now style) }
 {
     match earlier_in(alloc, table) {
         Ok(earlier) => {
@@ -210,7 +194,7 @@ impl<O: Outside> Commands<'_, O> {
         &self,
         path: Option<&'a str>,
     ) -> Result<Result<FullNames, Answer>, Failure<'a, O::Reason>>
-        ensures names { IfOk result (λ full. AreNames (O.bytes self.now.outside.now) (option_map (λ path. path.now) path.entry) (is_err full)) }
+        ensures { IfOk result (λ full. AreNames (O.bytes self.now.outside.now) (option_map (λ path. path.now) path.entry) (is_err full)) }
     {
         let read = self.read_beside(path, Input::Names, MAX_NAMES_BYTES)?;
         Ok(names_in(self.alloc, &read)?)
@@ -225,6 +209,7 @@ impl<O: Outside> Commands<'_, O> {
         ensures judged { IfOk result (λ read. ForKnown (named_input (O.bytes self.now.outside.now) book.now) (O.bytes self.now.outside.now returns.now) (λ input bytes.
             IsJudged Kept None input bytes read.judged)) }
         ensures fits { IfOk result (λ read. FitsJudged Kept read.judged) }
+        ensures text { IfOk result (HasTexts (named_input (O.bytes self.now.outside.now) book.now) (O.bytes self.now.outside.now returns.now)) }
     {
         let mut source = open_book(self.outside, book)?;
         let mut file = open(self.outside, returns, Input::Returns)?;
@@ -243,7 +228,7 @@ impl<O: Outside> Commands<'_, O> {
         requires fits { FitsJudged Kept read.now.judged }
         ensures { IfOk result (λ a. (is_refused : Bool) × (found : Option (Bor (List Party)))
             × AreBesideIn (O.bytes self.now.outside.now) writing.entry is_refused found
-            × IsReportAnswer (F.is_text forms.now) (beside found show.entry) is_refused read.now.judged writing.entry.style a) }
+            × IsReportAnswer (F.is_text forms.now) (beside found show.entry) is_refused paths.entry.book.now read.now writing.entry.style a) }
     {
         let names = self.full_names(writing.names)?;
         match self.read_beside(writing.before, Input::Before, MAX_BEFORE_BYTES) {
@@ -267,11 +252,9 @@ impl<O: Outside> Commands<'_, O> {
         paths: Paths<'a>,
         writing: Writing<'a>,
     ) -> Result<Answered, Failure<'a, O::Reason>>
-        ensures answer { IfOk result (λ a. (is_refused : Bool) × (found : Option (Bor (List Party)))
-            × AreBesideIn (O.bytes self.now.outside.now) writing.entry is_refused found
-            × IsReportIn (F.is_text forms.now) (O.bytes self.now.outside.now) (beside found show.entry) is_refused paths.entry writing.entry.style a) }
-        ensures said { IfOk result (λ a. IsOfReport (O.bytes self.now.outside.now) paths.entry.book.now paths.entry.returns.now (option_map (λ path. path.now) writing.entry.names)
-            (option_map (λ path. path.now) writing.entry.before) (λ s. IsSaid writing.entry.style.language s a.said.items)) }
+        ensures answer { IfOk result (λ a. IsReportOf (F.is_text forms.now) (O.bytes self.now.outside.now) show.entry paths.entry.book.now paths.entry.returns.now
+            (option_map (λ path. path.now) writing.entry.names) (option_map (λ path. path.now) writing.entry.before) writing.entry.style a.status a.text.items
+            (λ s. IsSaid writing.entry.style.language s a.said.items)) }
         ensures done { IfOk result (λ a. a.status ≡ status.Done → AreWarnings writing.entry.style.language a.said.items) }
     {
         match self.judged_at(paths.book, paths.returns) {
@@ -294,7 +277,6 @@ impl<O: Outside> Commands<'_, O> {
     ) -> Result<Answered, Failure<'a, O::Reason>>
         ensures output { IfOk result (λ a. IsReported (F.is_text forms.now) (O.bytes self.now.outside.now) what.now (option_map (λ path. path.now) names.entry)
             (style_of form self.now.language) a.status a.text.items (λ s. IsSaid self.now.language s a.said.items)) }
-        ensures said { IfOk result (λ a. IsOfWhat (O.bytes self.now.outside.now) what.now (option_map (λ path. path.now) names.entry) (λ s. IsSaid self.now.language s a.said.items)) }
         ensures done { IfOk result (λ a. a.status ≡ status.Done → AreWarnings self.now.language a.said.items) }
         ensures still { warns_of what.now ≡ false → IfOk result (λ a. a.status ≡ status.Done → a.said.items ≡ []) }
     {

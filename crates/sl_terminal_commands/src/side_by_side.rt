@@ -1,10 +1,12 @@
 //! The command that puts rulebooks side by side on returns, over files. Each input is judged once.
 
-ghost use Rattle.std.specs.Prelude.{Bool, IfOk, is_err, map, option_map};
+ghost use Rattle.std.specs.Prelude.{Bool, IfErr, IfOk, is_err, map, option_map};
+ghost use Rattle.sl_report_commands.specs.Written.{json_digests};
 ghost use Rattle.sl_terminal_commands.specs.Beside.{AreNames};
 ghost use Rattle.sl_terminal_commands.specs.Comparisons.{IsComparisonOf, compared_words, library_words};
 ghost use Rattle.sl_terminal_commands.specs.Said.{IsSaid};
 ghost use Rattle.sl_terminal_commands.specs.inner.Comparing.{IsComparedAnswer, IsComparedOn};
+ghost use Rattle.sl_terminal_commands.specs.inner.Digested.{called_digests};
 
 use crate::answered::Answered;
 use crate::commands::Commands;
@@ -31,7 +33,8 @@ fn compare_in<F: Forms>(
     names: Result<FullNames, Answer>,
     style: Style,
 ) -> Result<Answered, NoMemory>
-    ensures { IfOk result (IsComparedAnswer (F.is_text forms.now) style (is_err names) books.entry.items methods.now returns.now.read.verdict) }
+    ensures { IfOk result (IsComparedAnswer (F.is_text forms.now) style (json_digests style (called_digests books.entry.items returns.now)) (is_err names) books.entry.items
+        methods.now returns.now.read.verdict) }
 {
     let inputs = called_inputs(alloc, books.as_slice(), returns, style)?;
     let manner = Manner {
@@ -53,7 +56,8 @@ impl<O: Outside> Commands<'_, O> {
         writing: Writing<'a>,
     ) -> Result<Answered, Failure<'a, O::Reason>>
         ensures { IfOk result (λ a. (is_refused : Bool) × AreNames (O.bytes self.now.outside.now) (option_map (λ path. path.now) writing.entry.names) is_refused
-            × IsComparedAnswer (F.is_text forms.now) writing.entry.style is_refused books.entry.items methods.now returns.now.read.verdict a) }
+            × IsComparedAnswer (F.is_text forms.now) writing.entry.style (json_digests writing.entry.style (called_digests books.entry.items returns.now)) is_refused
+            books.entry.items methods.now returns.now.read.verdict a) }
     {
         match self.full_names(writing.names) {
             Ok(names) => {
@@ -73,7 +77,7 @@ impl<O: Outside> Commands<'_, O> {
         returns: &NamedReturns<'_>,
         writing: Writing<'a>,
     ) -> Result<Answered, Failure<'a, O::Reason>>
-        ensures { IfOk result (IsComparedOn (F.is_text forms.now) (O.bytes self.now.outside.now) (map (λ word. word.now) books.now) methods.now returns.now.read.verdict writing.entry) }
+        ensures { IfOk result (IsComparedOn (F.is_text forms.now) (O.bytes self.now.outside.now) (map (λ word. word.now) books.now) methods.now returns.now writing.entry) }
     {
         match self.books_at(books) {
             Ok(books) => self.compare_read(forms, books, methods, returns, writing),
@@ -89,7 +93,7 @@ impl<O: Outside> Commands<'_, O> {
         returns: &NamedReturns<'_>,
         writing: Writing<'a>,
     ) -> Result<Answered, Failure<'a, O::Reason>>
-        ensures { IfOk result (IsComparedOn (F.is_text forms.now) (O.bytes self.now.outside.now) library_words methods.now returns.now.read.verdict writing.entry) }
+        ensures { IfOk result (IsComparedOn (F.is_text forms.now) (O.bytes self.now.outside.now) library_words methods.now returns.now writing.entry) }
     {
         let words = match library_words(self.alloc) {
             Ok(words) => words,
@@ -111,7 +115,7 @@ impl<O: Outside> Commands<'_, O> {
         writing: Writing<'a>,
     ) -> Result<Answered, Failure<'a, O::Reason>>
         ensures { IfOk result (IsComparedOn (F.is_text forms.now) (O.bytes self.now.outside.now) (compared_words (map (λ word. word.now) books.now)) methods.now
-            returns.now.read.verdict writing.entry) }
+            returns.now writing.entry) }
     {
         if books.is_empty() {
             self.compare_statutes(forms, methods, returns, writing)

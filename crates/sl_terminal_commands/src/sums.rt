@@ -1,16 +1,14 @@
 //! Rulebooks and returns that are read, and what the command answers that reports the sums of returns. Each input is read and judged once.
 
 ghost use Rattle.std.specs.Option.{option_map};
-ghost use Rattle.std.specs.Prelude.{◌≡◌, [], All, Bool, IfOk, is_err, map};
-ghost use Rattle.sl_count_inputs.specs.Judging.{election_verdict, tree_verdict};
+ghost use Rattle.std.specs.Prelude.{◌≡◌, [], Bool, IfErr, IfOk, is_err, map};
 ghost use Rattle.sl_count_inputs.specs.declared.status.Status.TheVariants as status;
 ghost use Rattle.sl_terminal_commands.specs.Beside.{AreNames};
 ghost use Rattle.sl_terminal_commands.specs.Requests.{IsTotalsOf};
 ghost use Rattle.sl_terminal_commands.specs.Said.{IsSaid, said_of};
 ghost use Rattle.sl_explain_calls.specs.Codes.{subject_of};
-ghost use Rattle.sl_terminal_commands.specs.Sums.{AreJudged, IsOfTotals};
-ghost use Rattle.sl_terminal_commands.specs.inner.Comparing.{AreRead, IsReadBook};
-ghost use Rattle.sl_terminal_commands.specs.inner.Totals.{IsTotalsAnswer, IsTotalsOn};
+ghost use Rattle.sl_terminal_commands.specs.inner.Comparing.{AreRead, AreReadOf, IsReadBook};
+ghost use Rattle.sl_terminal_commands.specs.inner.Totals.{IsTotalsAnswer, IsTotalsOn, bytes_in, verdict_in};
 
 use crate::answered::{Answered, ReadFile, reported, told_text};
 use crate::commands::Commands;
@@ -41,7 +39,7 @@ pub(crate) struct NamedReturns<'a> {
 
 // What a rulebook comes to, if one is given.
 fn verdict_of<'b>(book: Option<&'b NamedBook<'_>>) -> Option<&'b BookVerdict<'b>>
-    ensures { option_map (λ v. v.now) result ≡ option_map (λ b. b.now.read.verdict) book.entry }
+    ensures { option_map (λ v. v.now) result ≡ verdict_in (option_map (λ b. b.now) book.entry) }
 {
     match book {
         Some(book) => Some(&book.read.verdict),
@@ -50,7 +48,10 @@ fn verdict_of<'b>(book: Option<&'b NamedBook<'_>>) -> Option<&'b BookVerdict<'b>
 }
 
 // The bytes of a rulebook, if one is given, and of returns.
-fn texts_of<'b>(book: Option<&'b NamedBook<'_>>, returns: &'b NamedReturns<'_>) -> Texts<'b> {
+fn texts_of<'b>(book: Option<&'b NamedBook<'_>>, returns: &'b NamedReturns<'_>) -> Texts<'b>
+    ensures book { result.book.now ≡ bytes_in (option_map (λ b. b.now) book.entry) }
+    ensures returns { result.returns.now ≡ returns.now.read.text.items }
+{
     let returns = returns.read.text.as_slice();
     match book {
         Some(book) => Texts {
@@ -107,7 +108,7 @@ fn totals_with<F: Forms>(
     names: &Result<FullNames, Answer>,
     style: Style,
 ) -> Result<Answered, NoMemory>
-    ensures { IfOk result (IsTotalsAnswer (F.is_text forms.now) (is_err names.now) (option_map (λ b. b.now.read.verdict) book.entry) returns.now.read.verdict style) }
+    ensures { IfOk result (IsTotalsAnswer (F.is_text forms.now) (is_err names.now) (option_map (λ b. b.now) book.entry) returns.now style) }
 {
     let (verdict, texts) = (verdict_of(book), texts_of(book, returns));
     let returns_verdict = &returns.read.verdict;
@@ -150,8 +151,7 @@ impl<O: Outside> Commands<'_, O> {
         &self,
         path: &'a str,
     ) -> Result<NamedReturns<'a>, Failure<'a, O::Reason>>
-        ensures path { IfOk result (λ r. r.path.now ≡ path.now) }
-        ensures returns { IfOk result (λ r. AreJudged (O.bytes self.now.outside.now path.now) (election_verdict r.read.verdict)) }
+        ensures { IfOk result (AreReadOf (O.bytes self.now.outside.now path.now)) }
     {
         let mut file = open(self.outside, path, Input::Returns)?;
         let read = read_election(self.alloc, &mut file)?;
@@ -167,7 +167,7 @@ impl<O: Outside> Commands<'_, O> {
         writing: Writing<'a>,
     ) -> Result<Answered, Failure<'a, O::Reason>>
         ensures { IfOk result (λ a. (is_refused : Bool) × AreNames (O.bytes self.now.outside.now) (option_map (λ path. path.now) writing.entry.names) is_refused
-            × IsTotalsAnswer (F.is_text forms.now) is_refused (option_map (λ b. b.now.read.verdict) book.entry) returns.now.read.verdict writing.entry.style a) }
+            × IsTotalsAnswer (F.is_text forms.now) is_refused (option_map (λ b. b.now) book.entry) returns.now writing.entry.style a) }
     {
         let names = self.full_names(writing.names)?;
         let answered = totals_with(forms, self.alloc, book, returns, &names, writing.style);
@@ -184,7 +184,7 @@ impl<O: Outside> Commands<'_, O> {
         writing: Writing<'a>,
     ) -> Result<Answered, Failure<'a, O::Reason>>
         ensures { IfOk result (λ a. (is_refused : Bool) × AreNames (O.bytes self.now.outside.now) (option_map (λ path. path.now) writing.entry.names) is_refused
-            × IsTotalsOn (F.is_text forms.now) (O.bytes self.now.outside.now) is_refused (option_map (λ word. word.now) book.entry) returns.now.read.verdict writing.entry.style a) }
+            × IsTotalsOn (F.is_text forms.now) (O.bytes self.now.outside.now) is_refused (option_map (λ word. word.now) book.entry) returns.now writing.entry.style a) }
     {
         match book {
             Some(word) => match self.book_at(word) {
@@ -207,10 +207,8 @@ impl<O: Outside> Commands<'_, O> {
         book: Option<&'a str>,
         writing: Writing<'a>,
     ) -> Result<Answered, Failure<'a, O::Reason>>
-        ensures output { IfOk result (λ a. IsTotalsOf (F.is_text forms.now) (O.bytes self.now.outside.now) returns.now (option_map (λ word. word.now) book.entry)
-            (option_map (λ path. path.now) writing.entry.names) writing.entry.style a.status a.text.items) }
-        ensures said { IfOk result (λ a. IsOfTotals (O.bytes self.now.outside.now) returns.now (option_map (λ word. word.now) book.entry)
-            (λ s. IsSaid writing.entry.style.language s a.said.items)) }
+        ensures answer { IfOk result (λ a. IsTotalsOf (F.is_text forms.now) (O.bytes self.now.outside.now) returns.now (option_map (λ word. word.now) book.entry)
+            (option_map (λ path. path.now) writing.entry.names) writing.entry.style a.status a.text.items (λ s. IsSaid writing.entry.style.language s a.said.items)) }
         ensures done { IfOk result (λ a. a.status ≡ status.Done → a.said.items ≡ []) }
     {
         match self.returns_at(returns) {

@@ -116,8 +116,8 @@ impl Speaker {
         self.explained(alloc, &explanation)
     }
 
-    // The same, or nothing where there is no memory for it.
-    fn refusal(self, alloc: Global, path: &str, lost: Lost) -> Said {
+    /// The same, or nothing where there is no memory for it.
+    pub(crate) fn spared(self, alloc: Global, path: &str, lost: Lost) -> Said {
         match self.kept(alloc, path, lost) {
             Ok(text) => Said::Text(text),
             Err(NoMemory) => Said::Fixed(""),
@@ -141,8 +141,6 @@ impl Speaker {
                 let explained = explain_failure(alloc, self.language, *error);
                 self.error(alloc, *error, explained.ok().flatten())
             }
-            Failure::Kept(path) => self.refusal(alloc, path, Lost::Other),
-            Failure::Same(path) => self.refusal(alloc, path, Lost::Rulebook),
         }
     }
 }

@@ -165,7 +165,7 @@ pub fn run<O: Writable, W: Sink, E: Sink, F: Forms, S: Speech>(
     words: &[String],
 ) -> u8
     ensures { IsRun O.bytes O.tells_made W.contents W.failed E.contents E.failed
-        (IsReplyTo (F.is_text forms.now) (S.is_asked speech.now) (S.is_about speech.now) terminal.old.language (O.bytes terminal.old.outside) (map string_bytes words.now))
+        (IsReplyTo (F.is_text forms.now) (S.is_about speech.now) terminal.old.language (O.bytes terminal.old.outside) (map string_bytes words.now))
         terminal.old terminal.new result }
 {
     let (alloc, language) = (terminal.alloc, terminal.language);

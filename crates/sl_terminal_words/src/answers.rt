@@ -1,5 +1,9 @@
 //! What is said of words that ask for no command: a help, the version, or why they are refused.
 
+ghost use Rattle.std.specs.Prelude.{◌≡◌, IfOk};
+ghost use Rattle.clap.specs.Words.{kind_of};
+ghost use Rattle.sl_terminal_words.specs.inner.Replies.{IsRefusal, IsText, Tells};
+
 use crate::help::{Form, PROGRAM, command_of, named};
 use crate::hints::hint_of;
 use crate::page::{push_ending, push_page, push_usage};
@@ -61,7 +65,9 @@ fn help(
     language: Language,
     words: &[String],
     mut page: String,
-) -> Result<Answer, NoMemory> {
+) -> Result<Answer, NoMemory>
+    ensures { IfOk result IsText }
+{
     finish_help(&mut page, alloc, language, words)?;
     Ok(Answer::Shown(page.into_bytes()))
 }
@@ -105,7 +111,9 @@ pub(crate) fn refuse(
     language: Language,
     program: &mut Command<'_>,
     sentence: &Message,
-) -> Result<Answer, NoMemory> {
+) -> Result<Answer, NoMemory>
+    ensures { IfOk result IsRefusal }
+{
     let usage = usage_of_program(alloc, language, program)?;
     let sentence = sentence.in_language(language).as_bytes();
     let text = refusal(alloc, language, sentence, &[], usage.as_bytes())?;
@@ -156,7 +164,9 @@ fn refuse_by(
     words: &[String],
     program: &mut Command<'_>,
     error: &Error,
-) -> Result<Answer, NoMemory> {
+) -> Result<Answer, NoMemory>
+    ensures { IfOk result IsRefusal }
+{
     let text = format!(in alloc; "{error}")?;
     let Some(tips) = tips(alloc, language, words, error.kind(), text.as_str())? else {
         return Ok(Answer::Refused(text.into_bytes()));
@@ -175,7 +185,9 @@ pub(crate) fn answer_to(
     words: &[String],
     program: &mut Command<'_>,
     error: &Error,
-) -> Result<Answer, NoMemory> {
+) -> Result<Answer, NoMemory>
+    ensures { IfOk result (Tells (kind_of error.now)) }
+{
     match error.kind() {
         ErrorKind::OutOfMemory => Err(NoMemory),
         ErrorKind::DisplayVersion => {

@@ -1,11 +1,20 @@
 //! The words of the command line.
 
+ghost use Rattle.std.specs.Prelude.{◌≡◌, ◌∷◌, [], IfOk, false, map, option_and_then, string_bytes};
+ghost use Rattle.clap.specs.Words.{app_of, rule_of, subcommand_rows_of};
+ghost use Rattle.sl_terminal_words.specs.Answers.{Answers, IsAnswerTo};
+ghost use Rattle.sl_terminal_words.specs.Commands.{all_commands, command_word, program_for, rule_named, shape_of_command};
+ghost use Rattle.sl_terminal_words.specs.Requests.{asked_by, command_of};
+ghost use Rattle.sl_terminal_words.specs.inner.Replies.{Replies};
+ghost use Rattle.sl_terminal_words.specs.inner.Rules.{HasCommands, HasRules, IsOfForm, app_of_form, plain, plain_rule, rule_of_word};
+
 use crate::answers::{Answer, answer_to, refuse};
-use crate::help::{COMMANDS, Form, Name, PROGRAM, command_of};
-use crate::options::{Options, language_in, options_of};
-use crate::reports::{Report, ReportForm, form_of, report_of};
+use crate::help::{COMMANDS, Form, PROGRAM, command_of};
+use crate::options::{Options, language_in};
+use crate::reports::{Report, ReportForm};
+use crate::requests::asked_in;
 use crate::texts::command_line::{NO_COMMAND, SAME_FILE, UNKNOWN_CODE};
-use crate::words::{Given, Word};
+use crate::words::{Given, Word, WordName};
 use clap::{Arg, ArgAction, ArgMatches, Command};
 use sl_base_quotients::NoMemory;
 use sl_explain_texts::{FaultCode, Language, Message, VERSION};
@@ -72,7 +81,9 @@ pub struct Asked<'a> {
 
 impl Request<'_> {
     /// The command that asks for it.
-    pub fn command(&self) -> &'static str {
+    pub fn command(&self) -> &'static str
+        ensures { result.now ≡ command_word (command_of self.now) }
+    {
         match self {
             Request::Count { show, .. } => match show {
                 Show::Seats => "count",
@@ -95,12 +106,17 @@ impl Request<'_> {
 }
 
 // A word that is given by its name.
-fn named<'a>(arg: Arg<'a>, word: &Word, action: ArgAction) -> Arg<'a> {
+fn named<'a>(arg: Arg<'a>, word: &Word, action: ArgAction) -> Arg<'a>
+    ensures { result ≡ record arg.entry { long = Some word.now.name; action = Some action } }
+{
     arg.long(word.name).action(action)
 }
 
 // A word of a command, with its help.
-fn arg_of<'a>(alloc: Global, language: Language, word: &Word) -> Result<Arg<'a>, AllocError> {
+fn arg_of<'a>(alloc: Global, language: Language, word: &Word) -> Result<Arg<'a>, AllocError>
+    ensures rule { IfOk result (λ arg. plain_rule (rule_of arg) ≡ rule_of_word word.now) }
+    ensures own { IfOk result (λ arg. arg.global ≡ false) }
+{
     let arg = Arg::new(alloc, word.name).help(word.help.in_language(language));
     match word.given {
         Given::Flag(against) => named(arg, word, ArgAction::SetTrue).conflicts_with_all(against),
@@ -132,17 +148,34 @@ fn with_word<'a>(
     language: Language,
     command: Command<'a>,
     word: &Word,
-) -> Result<Command<'a>, AllocError> {
+) -> Result<Command<'a>, AllocError>
+    ensures { IfOk result (HasRules command.entry (rule_of_word word.now ∷ [])) }
+{
     command.arg(arg_of(alloc, language, word)?)
 }
 
-// A command with its words and its help, but for the end of that.
-fn command<'a>(alloc: Global, language: Language, form: &Form) -> Result<Command<'a>, AllocError> {
-    let mut command = Command::new(alloc, form.name).about(form.about.in_language(language));
-    for name in form.words.iter().chain(form.options) {
+// The command with more words.
+fn with_words<'a>(
+    alloc: Global,
+    language: Language,
+    mut command: Command<'a>,
+    names: &[WordName],
+) -> Result<Command<'a>, AllocError>
+    ensures { IfOk result (HasRules command.entry (map rule_named names.now)) }
+{
+    for name in names {
         command = with_word(alloc, language, command, name.word())?;
     }
     Ok(command)
+}
+
+// A command with its words and its help, but for the end of that.
+fn command<'a>(alloc: Global, language: Language, form: &Form) -> Result<Command<'a>, AllocError>
+    ensures { IfOk result (IsOfForm form.now) }
+{
+    let command = Command::new(alloc, form.name).about(form.about.in_language(language));
+    let command = with_words(alloc, language, command, form.words)?;
+    with_words(alloc, language, command, form.options)
 }
 
 // The program with one more command.
@@ -151,7 +184,9 @@ fn with_command<'a>(
     language: Language,
     program: Command<'a>,
     form: &Form,
-) -> Result<Command<'a>, AllocError> {
+) -> Result<Command<'a>, AllocError>
+    ensures { IfOk result (HasCommands program.entry ((app_of_form form.now).top ∷ [])) }
+{
     program.subcommand(command(alloc, language, form)?)
 }
 
@@ -160,7 +195,9 @@ fn with_commands<'a>(
     alloc: Global,
     language: Language,
     mut program: Command<'a>,
-) -> Result<Command<'a>, AllocError> {
+) -> Result<Command<'a>, AllocError>
+    ensures { IfOk result (HasCommands program.entry (map shape_of_command all_commands)) }
+{
     for command in COMMANDS {
         program = with_command(alloc, language, program, command.form())?;
     }
@@ -173,100 +210,15 @@ fn program<'a>(
     alloc: Global,
     language: Language,
     words: &[String],
-) -> Result<Command<'a>, AllocError> {
+) -> Result<Command<'a>, AllocError>
+    ensures { IfOk result (λ program. plain (app_of program) ≡ program_for (map string_bytes words.now)) }
+{
     let program = command(alloc, language, &PROGRAM)?;
     let program = program.version(VERSION).subcommand_required(true);
     match command_of(words) {
         Some(form) => with_command(alloc, language, program, form),
         None => with_commands(alloc, language, program),
     }
-}
-
-fn counting<'a>(show: Show<'a>, given: &ArgMatches<'a>) -> Option<Request<'a>> {
-    let book = given.get_str("BOOK")?;
-    let returns = given.get_str("RETURNS")?;
-    Some(Request::Count {
-        show,
-        book,
-        returns,
-    })
-}
-
-// To compile a rulebook, unless the code would be written over it.
-fn compiling<'a>(given: &ArgMatches<'a>) -> Option<Request<'a>> {
-    let book = given.get_str("BOOK")?;
-    let file = given.get_str("OUT")?;
-    if book == file {
-        return None;
-    }
-    Some(Request::Code {
-        book,
-        file,
-        is_forced: given.get_flag("force"),
-    })
-}
-
-fn running<'a>(given: &ArgMatches<'a>) -> Option<Request<'a>> {
-    let code = given.get_str("CODE")?;
-    let returns = given.get_str("RETURNS")?;
-    Some(Request::Run { code, returns })
-}
-
-// The code that is given, if it is one.
-fn given_code(given: &ArgMatches<'_>) -> Option<FaultCode> {
-    FaultCode::of_word(given.get_str("CODE")?)
-}
-
-// What a command that does not report asks for.
-fn desk_request<'a>(name: Name, given: &ArgMatches<'a>) -> Option<Request<'a>> {
-    match name {
-        Name::Count => counting(Show::Seats, given),
-        Name::Steps => counting(Show::Steps, given),
-        Name::Stage => counting(Show::Stage(given.get_str("NAME")?), given),
-        Name::Check => Some(Request::Check {
-            book: given.get_str("BOOK")?,
-        }),
-        Name::Code => compiling(given),
-        Name::Run => running(given),
-        Name::Law => Some(Request::Law {
-            name: given.get_str("NAME")?,
-        }),
-        Name::Explain => Some(Request::Explain {
-            code: given_code(given)?,
-        }),
-        Name::Report | Name::Stages | Name::Totals | Name::Compare => None,
-    }
-}
-
-// What a command asks for with the words given to it.
-fn request_by<'a>(
-    alloc: Global,
-    name: Name,
-    given: &ArgMatches<'a>,
-) -> Result<Option<Request<'a>>, AllocError> {
-    Ok(match report_of(alloc, name, given)? {
-        Some(what) => Some(Request::Report {
-            what,
-            form: form_of(given),
-            names: given.get_str("names"),
-        }),
-        None => desk_request(name, given),
-    })
-}
-
-// What the words ask for, if a command is among them.
-fn asked_in<'a>(alloc: Global, matches: &ArgMatches<'a>) -> Result<Option<Asked<'a>>, AllocError> {
-    let Some((command, given)) = matches.subcommand() else {
-        return Ok(None);
-    };
-    let Some(name) = Name::of_word(command) else {
-        return Ok(None);
-    };
-    let request = request_by(alloc, name, given)?;
-    Ok(request.map(|request| Asked {
-        request,
-        options: options_of(given),
-    }))
 }
 
 // Why words are refused that `clap` takes and that ask for nothing.
@@ -284,7 +236,9 @@ fn asked_or_refused<'a>(
     language: Language,
     program: &mut Command<'_>,
     matches: &ArgMatches<'a>,
-) -> Result<Result<Asked<'a>, Answer>, NoMemory> {
+) -> Result<Result<Asked<'a>, Answer>, NoMemory>
+    ensures { IfOk result (Replies (option_and_then asked_by (subcommand_rows_of matches.now))) }
+{
     match asked_in(alloc, matches)? {
         Some(asked) => Ok(Ok(asked)),
         None => Ok(Err(refuse(alloc, language, program, unasked(matches))?)),
@@ -297,7 +251,10 @@ fn read_by<'a>(
     language: Language,
     words: &'a [String],
     program: &mut Command<'a>,
-) -> Result<Result<Asked<'a>, Answer>, NoMemory> {
+) -> Result<Result<Asked<'a>, Answer>, NoMemory>
+    requires { plain (app_of program.old) ≡ program_for (map string_bytes words.now) }
+    ensures { IfOk result (Answers language (map string_bytes words.entry.now)) }
+{
     match program.try_get_matches_from_mut(words) {
         Ok(matches) => asked_or_refused(alloc, language, program, &matches),
         Err(error) => Ok(Err(answer_to(alloc, language, words, program, &error)?)),
@@ -309,7 +266,9 @@ fn read<'a>(
     alloc: Global,
     language: Language,
     words: &'a [String],
-) -> Result<Result<Asked<'a>, Answer>, NoMemory> {
+) -> Result<Result<Asked<'a>, Answer>, NoMemory>
+    ensures { IfOk result (Answers language (map string_bytes words.entry.now)) }
+{
     let mut program = program(alloc, language, words)?;
     let read = read_by(alloc, language, words, &mut program);
     drop(program);
@@ -327,10 +286,12 @@ pub fn request_of<'a>(
     alloc: Global,
     language: Language,
     words: &'a [String],
-) -> Result<Asked<'a>, Answer> {
-    let language = language_in(words).unwrap_or(language);
-    match read(alloc, language, words) {
+) -> Result<Asked<'a>, Answer>
+    ensures { IsAnswerTo language (map string_bytes words.entry.now) result }
+{
+    let spoken = language_in(words).unwrap_or(language);
+    match read(alloc, spoken, words) {
         Ok(read) => read,
-        Err(NoMemory) => Err(Answer::NoMemory(language)),
+        Err(NoMemory) => Err(Answer::NoMemory(spoken)),
     }
 }

@@ -1,5 +1,9 @@
 //! The commands as a table: of each its words and options, what it reads and writes, an example, and the exit statuses.
 
+ghost use Rattle.std.specs.Prelude.{◌≡◌, map, option_and_then, slice_get, string_bytes};
+ghost use Rattle.sl_terminal_words.specs.Commands.{command_named};
+ghost use Rattle.sl_terminal_words.specs.inner.Rules.{IsFormOf, NamesForm};
+
 use crate::statuses::{ALL, COUNTS, READS, RUNS, Status, TELLS};
 use crate::texts::help::{
     CHECK_ABOUT, CHECK_MORE, CODE_ABOUT, CODE_MORE, COMPARE_ABOUT, COMPARE_MORE, COUNT_ABOUT,
@@ -176,17 +180,19 @@ pub(crate) enum Name {
 
 impl Name {
     /// The command that a word names, if it names one.
-    pub(crate) fn of_word(word: &str) -> Option<Name> {
-        for name in COMMANDS {
-            if name.form().name == word {
-                return Some(name);
-            }
-        }
-        None
+    pub(crate) fn of_word(word: &str) -> Option<Name>
+        ensures { result ≡ command_named word.now }
+    {
+        COMMANDS
+            .iter()
+            .copied()
+            .find(|name| name.form().name == word)
     }
 
     /// The command.
-    pub(crate) fn form(self) -> &'static Form {
+    pub(crate) fn form(self) -> &'static Form
+        ensures { IsFormOf self result.now }
+    {
         match self {
             Name::Count => &COUNT,
             Name::Steps => &STEPS,
@@ -221,11 +227,15 @@ pub(crate) const COMMANDS: [Name; 12] = [
 ];
 
 /// The command of a name.
-pub(crate) fn named(name: &str) -> Option<&'static Form> {
+pub(crate) fn named(name: &str) -> Option<&'static Form>
+    ensures { NamesForm (command_named name.now) result }
+{
     Some(Name::of_word(name)?.form())
 }
 
 /// The command that the words begin with, if they begin with one.
-pub(crate) fn command_of(words: &[String]) -> Option<&'static Form> {
+pub(crate) fn command_of(words: &[String]) -> Option<&'static Form>
+    ensures { NamesForm (option_and_then command_named (slice_get (map string_bytes words.now) 1)) result }
+{
     named(words.get(1)?.as_str())
 }

@@ -1,5 +1,10 @@
 //! The words of the commands that report.
 
+ghost use Rattle.std.specs.Prelude.{◌≡◌, IfOk, option_map};
+ghost use Rattle.clap.specs.Words.{found_of, rows_of};
+ghost use Rattle.sl_terminal_words.specs.Requests.{comparison_page, counted_page, form_by, page_by, page_of, stages_page, totals_page};
+
+use crate::given::{flag_in, word_in, words_in};
 use crate::help::Name;
 use clap::ArgMatches;
 use std::alloc::{AllocError, Global};
@@ -47,66 +52,72 @@ pub enum ReportForm {
 }
 
 /// The form that is asked for.
-pub(crate) fn form_of(given: &ArgMatches<'_>) -> ReportForm {
-    if given.get_flag("markdown") {
+pub(crate) fn form_of(given: &ArgMatches<'_>) -> ReportForm
+    ensures { result ≡ form_by (rows_of (found_of given.now)) }
+{
+    if flag_in(given, "markdown") {
         ReportForm::Markdown
-    } else if given.get_flag("html") {
+    } else if flag_in(given, "html") {
         ReportForm::Html
-    } else if given.get_flag("json") {
+    } else if flag_in(given, "json") {
         ReportForm::Json
-    } else if given.get_flag("csv") {
+    } else if flag_in(given, "csv") {
         ReportForm::Comma
     } else {
         ReportForm::Text
     }
 }
 
-// The values that are given of a word, none if it is not given.
-fn values_of<'a>(
-    alloc: Global,
-    given: &ArgMatches<'a>,
-    word: &str,
-) -> Result<Vec<&'a str>, AllocError> {
-    match given.get_strs(word) {
-        Some(values) => Vec::from_slice(alloc, values),
-        None => Ok(Vec::new(alloc)),
+// What `report` reports.
+fn reporting<'a>(given: &ArgMatches<'a>) -> Option<Report<'a>>
+    ensures { option_map page_of result ≡ counted_page (rows_of (found_of given.now)) }
+{
+    let book = word_in(given, "BOOK")?;
+    let returns = word_in(given, "RETURNS")?;
+    if flag_in(given, "short") {
+        let before = word_in(given, "before");
+        Some(Report::Short {
+            book,
+            returns,
+            before,
+        })
+    } else {
+        Some(Report::Count { book, returns })
     }
+}
+
+// What `stages` reports.
+fn staging<'a>(given: &ArgMatches<'a>) -> Option<Report<'a>>
+    ensures { option_map page_of result ≡ stages_page (rows_of (found_of given.now)) }
+{
+    let book = word_in(given, "BOOK")?;
+    let returns = word_in(given, "RETURNS")?;
+    Some(Report::Stages { book, returns })
+}
+
+// What `totals` reports.
+fn totalling<'a>(given: &ArgMatches<'a>) -> Option<Report<'a>>
+    ensures { option_map page_of result ≡ totals_page (rows_of (found_of given.now)) }
+{
+    let returns = word_in(given, "RETURNS")?;
+    let book = word_in(given, "BOOK");
+    Some(Report::Totals { returns, book })
 }
 
 // What `compare` reports.
-fn comparing<'a>(alloc: Global, given: &ArgMatches<'a>) -> Result<Option<Report<'a>>, AllocError> {
-    let Some(returns) = given.get_str("RETURNS") else {
+fn comparing<'a>(alloc: Global, given: &ArgMatches<'a>) -> Result<Option<Report<'a>>, AllocError>
+    ensures { IfOk result (λ r. option_map page_of r ≡ comparison_page (rows_of (found_of given.now))) }
+{
+    let Some(returns) = word_in(given, "RETURNS") else {
         return Ok(None);
     };
-    let books = values_of(alloc, given, "BOOK")?;
+    let books = words_in(alloc, given, "BOOK")?;
+    let methods = words_in(alloc, given, "method")?;
     Ok(Some(Report::Compare {
         returns,
         books,
-        methods: values_of(alloc, given, "method")?,
+        methods,
     }))
-}
-
-// What a command reports of one rulebook.
-fn reporting<'a>(name: Name, given: &ArgMatches<'a>) -> Option<Report<'a>> {
-    let returns = given.get_str("RETURNS")?;
-    let book = given.get_str("BOOK");
-    match name {
-        Name::Report if given.get_flag("short") => Some(Report::Short {
-            book: book?,
-            returns,
-            before: given.get_str("before"),
-        }),
-        Name::Report => Some(Report::Count {
-            book: book?,
-            returns,
-        }),
-        Name::Stages => Some(Report::Stages {
-            book: book?,
-            returns,
-        }),
-        Name::Totals => Some(Report::Totals { returns, book }),
-        _ => None,
-    }
 }
 
 /// What a command reports with the words given to it; `None` for one that does not report.
@@ -114,9 +125,14 @@ pub(crate) fn report_of<'a>(
     alloc: Global,
     name: Name,
     given: &ArgMatches<'a>,
-) -> Result<Option<Report<'a>>, AllocError> {
+) -> Result<Option<Report<'a>>, AllocError>
+    ensures { IfOk result (λ r. option_map page_of r ≡ page_by name (rows_of (found_of given.now))) }
+{
     match name {
+        Name::Report => Ok(reporting(given)),
+        Name::Stages => Ok(staging(given)),
+        Name::Totals => Ok(totalling(given)),
         Name::Compare => comparing(alloc, given),
-        _ => Ok(reporting(name, given)),
+        _ => Ok(None),
     }
 }

@@ -1,5 +1,9 @@
 //! The words and options of the commands: how each is given, and what it stands for, in both languages. Their names are the same in both.
 
+ghost use Rattle.std.specs.Prelude.{◌≡◌};
+ghost use Rattle.sl_terminal_words.specs.Commands.{rule_named};
+ghost use Rattle.sl_terminal_words.specs.inner.Rules.{rule_of_word};
+
 use crate::texts::words::{
     BEFORE_HELP, BOOK_HELP, BOOKS_HELP, CODE_FILE_HELP, CSV_HELP, FAULT_CODE_HELP, FILE_VALUE,
     FORCE_HELP, HELP_HELP, HTML_HELP, JSON_HELP, LANGUAGE_HELP, LANGUAGE_VALUE, MARKDOWN_HELP,
@@ -209,7 +213,9 @@ pub enum WordName {
 
 impl WordName {
     /// The word.
-    pub(crate) fn word(self) -> &'static Word {
+    pub(crate) fn word(self) -> &'static Word
+        ensures { rule_of_word result.now ≡ rule_named self }
+    {
         match self {
             WordName::Book => &BOOK,
             WordName::OptionalBook => &OPTIONAL_BOOK,

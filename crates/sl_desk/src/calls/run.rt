@@ -1,7 +1,7 @@
 //! Running a code file: from its bytes and returns to the text of how the run ends.
 
 ghost use Rattle.std.specs.Prelude.{◌⊎◌, ◌≡◌, ◌+◌, IfOk, IfErr, IfSome};
-ghost use Rattle.sl_desk.specs.JudgedRuns.{FitsJudged, IsJudged, IsJudgedOn, IsRunAnswer, IsTable, RunsInto};
+ghost use Rattle.sl_desk.specs.JudgedRuns.{FitsJudged, HasRunTexts, IsJudged, IsJudgedOn, IsReturnsText, IsRunAnswer, IsTable, RunsInto};
 ghost use Rattle.sl_desk.specs.Running.{IsRunCode, ReadsBehindCode};
 ghost use Rattle.sl_count_inputs.specs.Failures.{counts, counts_after};
 ghost use Rattle.sl_count_inputs.specs.Reading.{ForKnown, TakesAtMost};
@@ -68,6 +68,8 @@ fn read_on<S: Source>(
 ) -> Result<ReadRun, DeskError>
     ensures judged { IfOk result (λ r. IfSome (S.remaining returns.old) (λ bytes. IsJudgedOn code bytes r.judged)) }
     ensures fits { IfOk result (λ r. FitsJudged r.judged) }
+    ensures file { IfOk result (λ r. r.file.items ≡ file.items) }
+    ensures text { IfOk result (λ r. IsReturnsText r.judged (S.remaining returns.old) r.returns.items) }
     ensures failures { counts 0 (S.failed returns.new) 0 0 ≡ counts_after (counts 0 (S.failed returns.old) 0 0) result }
     ensures limited { TakesAtMost (MAX_RETURNS_BYTES + 1) (S.remaining returns.old) (S.remaining returns.new) }
 {
@@ -106,6 +108,9 @@ pub fn judge_run<C: Source, R: Source>(
     // It is what the two inputs come to, where their bytes are known.
     ensures judged { IfOk result (λ r. ForKnown (C.remaining code.old) (R.remaining returns.old) (λ file bytes. IsJudged file bytes r.judged)) }
     ensures fits { IfOk result (λ r. FitsJudged r.judged) }
+
+    // The bytes are those that were read of the two.
+    ensures text { IfOk result (HasRunTexts (C.remaining code.old) (R.remaining returns.old)) }
 
     // No call of a source failed, or that one of which the error speaks.
     ensures failures { counts 0 (R.failed returns.new) (C.failed code.new) 0

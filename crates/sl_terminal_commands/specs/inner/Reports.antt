@@ -1,15 +1,13 @@
 -- What is read beside the inputs of a report, and what a report answers of what its inputs come to.
 use Rattle.std.specs.Borrow.{Bor}
-use Rattle.std.specs.Prelude.{Bool, IfSome, List, None, Option, Some, false, map, option_map, ◌||◌, ◌≡◌, ℕ}
-use Rattle.sl_count_calls.specs.declared.judged.Judged.{Judged}
+use Rattle.std.specs.Prelude.{Bool, IfSome, List, None, Option, Some, false, option_map, ◌||◌, ◌≡◌, ℕ}
+use Rattle.sl_count_calls.specs.declared.reading.Read.{Read}
 use Rattle.sl_count_inputs.specs.Inputs.{Holds}
-use Rattle.sl_count_inputs.specs.Reading.{ForKnown}
 use Rattle.sl_count_inputs.specs.declared.input.Bytes.TheVariants.{TooLong, Whole}
 use Rattle.sl_count_inputs.specs.declared.input.Bytes.{Bytes}
-use Rattle.sl_report_commands.specs.Reports.{IsReport, IsShown}
-use Rattle.sl_report_commands.specs.Written.{IsWritten, command_of}
+use Rattle.sl_report_commands.specs.Reports.{IsShown}
+use Rattle.sl_report_commands.specs.Written.{IsWritten, command_of, json_digests}
 use Rattle.sl_report_commands.specs.declared.written.Style.{Style}
-use Rattle.sl_report_forms.specs.Tables.{table_of}
 use Rattle.sl_report_forms.specs.declared.heading.Heading.{Heading}
 use Rattle.sl_report_parties.specs.declared.earlier.EarlierParty.{EarlierParty}
 use Rattle.sl_report_tables.specs.Earlier.{is_refused_in}
@@ -21,9 +19,8 @@ use Rattle.sl_terminal_commands.specs.Beside.{AreBeside}
 use Rattle.sl_terminal_commands.specs.Requests.{AreEarlier, AreTold}
 use Rattle.sl_terminal_commands.specs.Said.{IsSaid, report_said}
 use Rattle.sl_terminal_commands.specs.declared.answered.Answered.{Answered}
-use Rattle.sl_terminal_commands.specs.declared.reports.Paths.{Paths}
 use Rattle.sl_terminal_commands.specs.declared.reports.Writing.{Writing}
-use Rattle.sl_terminal_outside.specs.Inputs.{named_input}
+use Rattle.sl_terminal_commands.specs.inner.Digested.{read_digests}
 
 -- the bytes of a file, if one is given, within a limit
 abbrev pub IsReadFrom : (List ℕ → Option (List ℕ)) → (path : Option (List ℕ)) → (limit : ℕ) → Option Bytes → Type 0
@@ -43,25 +40,15 @@ AreToldIn None found = found ≡ None
 AreToldIn (Some TooLong) found = Unit {0}
 AreToldIn (Some (Whole text)) found = is_refused_in (Some (Whole text)) ≡ false → AreTold found text.items
 
--- what a report of inputs that come to this answers: its tables, its text, and what is said of it
-pub record IsReportAnswer (IsText : Shape → Heading → Answer → List ℕ → Type 0) (show : Show) (is_refused : Bool) (judged : Judged) (style : Style) (a : Answered) : Type 0 where
+-- what a report of a count that was read by a word answers: it shows the count, with its text and with what is said of it
+pub record IsReportAnswer (IsText : Shape → Heading → Answer → List ℕ → Type 0) (show : Show) (is_refused : Bool) (word : List ℕ) (read : Read) (style : Style) (a : Answered) : Type 0 where
   pub answer : Answer
   pub status : a.status ≡ answer.status
-  pub tables : IsShown show is_refused judged a.status (map table_of answer.sheets.items)
-  pub digests : List (List ℕ)
-  pub written : IsWritten IsText (command_of show) style digests answer a.text.items
-  pub said : IsSaid style.language (report_said is_refused judged) a.said.items
+  pub shows : IsShown show is_refused read.judged answer
+  pub written : IsWritten IsText (command_of show) style (json_digests style (read_digests word read)) answer a.text.items
+  pub said : IsSaid style.language (report_said is_refused read.judged) a.said.items
 
 -- the same beside an earlier table that was read
-abbrev pub IsReportBeside : (Shape → Heading → Answer → List ℕ → Type 0) → Show → (are_refused : Bool) → Option Bytes → Judged → Style → Answered → Type 0
-IsReportBeside IsText show are_refused table judged style a =
-    (found : Option (Bor (List EarlierParty))) × AreToldIn table found × IsReportAnswer IsText (beside found show) (are_refused || is_refused_in table) judged style a
-
--- what a report of the inputs at these paths answers: its tables and its text
-pub record IsReportIn (IsText : Shape → Heading → Answer → List ℕ → Type 0) (bytes : List ℕ → Option (List ℕ)) (show : Show) (is_refused : Bool) (paths : Paths)
-    (style : Style) (a : Answered) : Type 0 where
-  pub answer : Answer
-  pub status : a.status ≡ answer.status
-  pub tables : ForKnown (named_input bytes paths.book.now) (bytes paths.returns.now) (λ input known. IsReport show is_refused input known a.status (map table_of answer.sheets.items))
-  pub digests : List (List ℕ)
-  pub written : IsWritten IsText (command_of show) style digests answer a.text.items
+abbrev pub IsReportBeside : (Shape → Heading → Answer → List ℕ → Type 0) → Show → (are_refused : Bool) → Option Bytes → (word : List ℕ) → Read → Style → Answered → Type 0
+IsReportBeside IsText show are_refused table word read style a =
+    (found : Option (Bor (List EarlierParty))) × AreToldIn table found × IsReportAnswer IsText (beside found show) (are_refused || is_refused_in table) word read style a

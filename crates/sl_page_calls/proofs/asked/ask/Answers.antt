@@ -13,7 +13,6 @@ either f g (inr b) = g b
 pub returns-in-Ok-Some : goal.returns-in-Ok-Some
 returns-in-Ok-Some g c =
     let text = g.F.Forms.is_text c.args.forms.now in
-    let asked = g.S.Speech.is_asked c.args.speech.now in
     let about = g.S.Speech.is_about c.args.speech.now in
     let bytes = bytes_at c.args.files.now in
     let r = c.reply_to-reply.result in
@@ -24,8 +23,8 @@ returns-in-Ok-Some g c =
     λ is.
     inl (
       r,
-      subst (λ ws. IsReplyTo text asked about English bytes ws r) read
-          (subst (λ ws. IsReplyTo text asked about English bytes (map string_bytes ws) r) c.as_slice.ensures.value c.reply_to-reply.ensures),
+      subst (λ ws. IsReplyTo text about English bytes ws r) read
+          (subst (λ ws. IsReplyTo text about English bytes (map string_bytes ws) r) c.as_slice.ensures.value c.reply_to-reply.ensures),
       is,
     )
     )

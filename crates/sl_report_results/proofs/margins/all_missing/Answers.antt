@@ -8,5 +8,5 @@ loop-entry-preserved c =
     let inv = c.loop-entry.invariant in
     record {
       long = long_next _ _ _ _ inv.long c.in_ok-push.ensures.items;
-      missing = each_next (AreMissing c.args.method c.args.weights.now c.args.seats.now) _ _ _ None _ inv.long c.in_ok-push.ensures.items c.votes_missing.ensures.missing inv.missing;
+      missing = each_next (AreMissing c.args.method c.args.weights.now c.args.seats.now) _ _ _ None _ inv.long c.in_ok-push.ensures.items c.votes_missing_by.ensures.missing inv.missing;
     }

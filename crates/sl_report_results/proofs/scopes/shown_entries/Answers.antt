@@ -1,15 +1,18 @@
-use Rattle.std.proofs.Common.{filter, map}
-use Rattle.sl_report_results.specs.Scopes.{entry_of, is_shown}
+use Rattle.std.proofs.Common.{filter, map, ◌∙◌}
 use Rattle.sl_report_parties.proofs.Steps.{at_end}
+use Rattle.sl_report_results.proofs.OwnPlaces.{entry_told}
 use Rattle.sl_report_results.proofs.Pushed.{kept_next}
+use Rattle.sl_report_results.specs.Scopes.{entry_of, is_shown}
 use Rattle.sl_report_results.proofs.scopes.shown_entries.Goals as goal
 
-pub loop-item-preserved : goal.loop-item-preserved
-loop-item-preserved c =
-    kept_next c.args.items.now (entry_of c.args.returns.now c.args.stage c.args.what.now c.args.steps.now c.args.lot.now c.args.items.now) is_shown c.loop-item.item-index _ _ _ _
-    c.loop-item-test.true c.loop-item.invariant c.in_ok-push_shown.ensures c.entry_of-entry.ensures
+pub loop-number-preserved : goal.loop-number-preserved
+loop-number-preserved c = λ stage steps lot told.
+    let items = c.args.items.now in
+    kept_next items (entry_of c.args.returns.now stage c.args.what.now steps lot items) is_shown c.loop-number.number _ _ _ _
+    c.loop-number-test.true (c.loop-number.invariant stage steps lot told) c.in_ok-push_shown.ensures
+    (c.entry_of.ensures ∙ entry_told c.args.returns.now c.args.what.now stage steps lot c.args.won.now.cells.items c.args.places.now items told c.loop-number.number _ _ c.loop-number-test.true c.place_at-place.ensures)
 
 pub returns : goal.returns
-returns c =
-    at_end (λ items. filter is_shown (map (entry_of c.args.returns.now c.args.stage c.args.what.now c.args.steps.now c.args.lot.now c.args.items.now) items)) c.args.items.now c.loop-item.item-index _
-    c.loop-item-test.false c.loop-item.invariant
+returns c = λ stage steps lot told.
+    at_end (λ items. filter is_shown (map (entry_of c.args.returns.now stage c.args.what.now steps lot c.args.items.now) items)) c.args.items.now c.loop-number.number _
+    c.loop-number-test.false (c.loop-number.invariant stage steps lot told)

@@ -1,6 +1,7 @@
 use Rattle.std.proofs.Common.{Contains, inl, inr, refl, subst, sym}
 use Rattle.std.proofs.lemmas.Result.{IfOk-weaker}
 use Rattle.sl_count_inputs.specs.declared.verdict.Verdict.TheVariants.{Refused}
+use Rattle.sl_report_commands.specs.Digests.{digests}
 use Rattle.sl_terminal_commands.proofs.comparing.compare.Goals as goal
 use Rattle.sl_terminal_commands.specs.inner.Comparing.{AreGood, IsRefusedOne}
 
@@ -22,9 +23,10 @@ pub returns-in-Refused : goal.returns-in-Refused
 returns-in-Refused g c =
     let text = g.F.Forms.is_text c.args.manner.now.forms.now in
     let style = c.args.manner.now.style in
+    let shown = digests c.args.manner.now.inputs.now in
     IfOk-weaker c.refuse_comparison.result _ _
     (
     λ a h.
-    inr (subst (λ v. IsRefusedOne text style c.args.books.items v a) (sym c.in-Refused.is) (subst (λ bs. IsRefusedOne text style bs (Refused c.in-Refused.refused) a) c.as_slice-in-Refused.ensures.value h))
+    inr (subst (λ v. IsRefusedOne text style shown c.args.books.items v a) (sym c.in-Refused.is) (subst (λ bs. IsRefusedOne text style shown bs (Refused c.in-Refused.refused) a) c.as_slice-in-Refused.ensures.value h))
     )
     c.refuse_comparison.ensures

@@ -2,6 +2,7 @@ use Rattle.std.proofs.Common.{Contains, inl, inr, is_err, refl, subst, sym}
 use Rattle.std.proofs.lemmas.List.Elements.{All-append}
 use Rattle.std.proofs.lemmas.Result.{IfOk-weaker}
 use Rattle.std.specs.List.{AllZip}
+use Rattle.sl_report_commands.specs.Digests.{digests}
 use Rattle.sl_terminal_commands.proofs.Zips.{zip_of}
 use Rattle.sl_terminal_commands.proofs.comparing.compare_varied.Goals as goal
 use Rattle.sl_terminal_commands.specs.declared.sums.NamedBook.{NamedBook}
@@ -22,6 +23,7 @@ pub returns-in_ok-all-in-None : goal.returns-in_ok-all-in-None
 returns-in_ok-all-in-None g c =
     let text = g.F.Forms.is_text c.args.manner.now.forms.now in
     let style = c.args.manner.now.style in
+    let shown = digests c.args.manner.now.inputs.now in
     let books = c.args.books.items in
     let methods = c.args.methods.now in
     let varied = c.in_ok-varied.varied.items in
@@ -30,5 +32,5 @@ returns-in_ok-all-in-None g c =
     let good = subst AreGood c.as_slice-2.ensures.value (c.in-None.ensures.good refl) in
     let all = All-append (λ (b : NamedBook). IsGood b.read.verdict) books varied c.requires good in
     IfOk-weaker c.finish_comparison.result _ _
-    (λ a h. inl (varied, by, good, subst (λ bs. IsNamedAnswer text style (is_err c.args.names) e bs a) c.in_ok-all-in-None.ensures h))
+    (λ a h. inl (varied, by, good, subst (λ bs. IsNamedAnswer text style shown (is_err c.args.names) e bs a) c.in_ok-all-in-None.ensures h))
     (c.finish_comparison.ensures (subst AreGood (sym c.in_ok-all-in-None.ensures) all))

@@ -8,7 +8,8 @@ use Rattle.sl_terminal_commands.specs.inner.Reports.{IsReportAnswer}
 pub returns-in-Ok : goal.returns-in-Ok
 returns-in-Ok g c =
     let text = g.F.Forms.is_text c.args.forms.now in
-    let judged = c.args.read.now.judged in
+    let read = c.args.read.now in
+    let word = c.args.paths.book.now in
     let table = c.args.table.now in
     let shown = c.slice_of.result in
     let first = c.first_refusal-names in
@@ -19,8 +20,8 @@ returns-in-Ok g c =
     λ a h. (
       shown,
       told,
-      subst (λ s. IsReportAnswer text s (is_err c.args.names || is_refused_in table) judged c.args.style a) c.beside-show.ensures
-          (subst (λ b. IsReportAnswer text c.beside-show.result b judged c.args.style a) refused h),
+      subst (λ s. IsReportAnswer text s (is_err c.args.names || is_refused_in table) word read c.args.style a) c.beside-show.ensures
+          (subst (λ b. IsReportAnswer text c.beside-show.result b word read c.args.style a) refused h),
     )
     )
     c.report_with.ensures

@@ -16,7 +16,7 @@ returns-in_ok-line-in-ReturnsRefused-clause-output c =
     let answer = c.refused-in-ReturnsRefused in
     λ file returns is.
     let on = subst (λ j. IsJudged file returns j) c.in-ReturnsRefused.is is in
-    refused_returns file returns answer.result.status answer.result.text.items on.0 (returns_refusal_of c.in-ReturnsRefused.returns) on.1 on.2 answer.ensures.status
+    refused_returns file returns answer.result.status answer.result.text.items on.0 (returns_refusal_of c.in-ReturnsRefused.returns) on.1 on.2.0 answer.ensures.status
     (ap (λ v. v.items) answer.ensures.text ∙ c.in_ok-line-in-ReturnsRefused.ensures ∙ ap returns_line c.why.ensures)
 
 pub returns-in-Ran-clause-output : goal.returns-in-Ran-clause-output

@@ -13,8 +13,8 @@ returns g c =
     let quiet = c.args.asked.options.is_quiet in
     let commands = c.speaking-commands.result in
     let r = c.reply_in-reply.result in
-    subst (λ o. ((a : Answered) × IsAnswerTo text about (unwrap_or c.args.asked.options.language c.args.self.now.language) (g.O.Outside.bytes o.now) request a × IsReplied quiet (made_at request) a r) ⊎ IsStopped r) c.speaking-commands.ensures.outside
+    subst (λ o. ((a : Answered) × IsAnswerTo text about (unwrap_or c.args.asked.options.language c.args.self.now.language) (g.O.Outside.bytes o.now) request a × IsReplied quiet (made_at request) a r) ⊎ IsStopped (g.O.Outside.bytes o.now) request r) c.speaking-commands.ensures.outside
     (
-    subst (λ l. ((a : Answered) × IsAnswerTo text about l (g.O.Outside.bytes commands.outside.now) request a × IsReplied quiet (made_at request) a r) ⊎ IsStopped r)
+    subst (λ l. ((a : Answered) × IsAnswerTo text about l (g.O.Outside.bytes commands.outside.now) request a × IsReplied quiet (made_at request) a r) ⊎ IsStopped (g.O.Outside.bytes commands.outside.now) request r)
     c.speaking-commands.ensures.language c.reply_in-reply.ensures
     )
