@@ -236,6 +236,39 @@ def counted(book, returns):
     return status, text, said
 
 
+def lines_of(tables):
+    """The lines that `count`, or `steps`, has for the rows of its tables, kind by kind."""
+    lots = {True: " lot", False: ""}
+    forms = [
+        ("steps", "seat {stage} {scope} {entry} {number} {step} {mark}", lambda row: True),
+        ("bounds", "bounds {stage} {scope} {last} {next}", lambda row: True),
+        ("law", "total {seats}", lambda row: True),
+        ("parties", "party {party} {seats} {direct}", lambda row: True),
+        ("lists", "list {land} {party} {seats} {direct}", lambda row: True),
+        ("lists", "vacant {land} {party} {vacant}", lambda row: row["vacant"]),
+        ("singles", "single {constituency}", lambda row: True),
+        ("open", "open {constituency}", lambda row: True),
+    ]
+    return [form.format(**row) + lots[key == "bounds" and row["lot"]] for key, form, has in forms for row in tables.get(key, []) if has(row)]
+
+
+def check_lines(command, book, returns):
+    """The tables of `count`, or of `steps`, in JSON are its lines."""
+    line = f"{command} {book} {returns}"
+    status, text = run(command, book, returns)
+    status_json, text_json = run(command, book, returns, "--json")
+    told = json.loads(text_json)
+    for wrong in fits(told, SCHEMA, line)[:5]:
+        check(False, wrong)
+    check((status, command) == (status_json, told["command"]) and told["status"] == status, f"{line}: statuses or commands differ")
+    if status:
+        check(told["fault"] + "\n" == text, f"{line}: faults differ")
+    else:
+        kinds = ["seat", "bounds", "total", "party", "list", "vacant", "single", "open"]
+        lines = sorted(text.splitlines(), key=lambda row: kinds.index(row.split(" ")[0]))
+        check(lines_of(told["tables"]) == lines, f"{line}: lines differ")
+
+
 def check_totals(book, returns, report):
     """The seats of a report are those of count."""
     line = f"{book} {returns}"
@@ -353,6 +386,8 @@ def check_book(book, returns):
         check_steps(book, returns, report)
         check_press(book, returns)
     check_stages(book, returns)
+    check_lines("count", book, returns)
+    check_lines("steps", book, returns)
     forms("totals", returns, book)
 
 
@@ -390,6 +425,7 @@ def main():
     check_book("@2099", RETURNS[0])
     check_book("examples/tie/book.law", "examples/tie/book.law")
     check_error("report", "@2023-order", "missing.csv")
+    check_error("steps", "@2023-order", "missing.csv")
     check_error("totals", RETURNS[0], "--names", "missing.csv")
     check_election(
         "@1985", "examples/elections/2005.csv", "75970.5317",

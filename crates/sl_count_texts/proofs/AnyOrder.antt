@@ -15,7 +15,7 @@ use Rattle.sl_law_meaning.specs.laws.MeaningLaws.{same_seat, same_entry, Records
 use Rattle.sl_law_meaning.specs.meaning.Means.{SameTable}
 use Rattle.sl_law_meaning.specs.meaning.Tables.{SeatTable}
 use Rattle.sl_law_meaning.specs.returns.Election.{Election}
-use Rattle.sl_count_texts.specs.Bounds.{is_one_scope, groups, scope_weights, is_of_entry, seats_of, AreBoundsLines, IsBoundsLines}
+use Rattle.sl_count_texts.specs.Bounds.{is_one_scope, groups, scope_weights, is_of_entry, seats_of, AreScopeBounds, IsBoundsLines}
 use Rattle.sl_count_texts.specs.Orders.{step_key, weight_key, is_before, in_order}
 use Rattle.sl_count_texts.specs.Short.{short_text}
 use Rattle.sl_count_texts.specs.Steps.{step_line, steps_lines, IsStepsText}
@@ -101,13 +101,12 @@ module _ {X : Type 0} (key : X → List ℕ) where
 
 -- ---- texts
 
--- the bounds' lines are of the weights in order, and of how many seat steps each entry has
+-- the bounds are of the weights in order, and of how many seat steps each entry has
 same_bounds_lines : (names : List (List ℕ)) (e : Election) (t u : SeatTable) (lines : List ℕ) → SameTable t u → RecordsComeOnce t → IsBoundsLines names t e lines → IsBoundsLines names u e lines
-same_bounds_lines names e t u lines same once are =
+same_bounds_lines names e t u lines same once (found, are, is) =
     let seats : (w : Weight) → seats_of t w ≡ seats_of u w = λ w. sym (sum_by-IsPermutation (λ x. cond (is_of_entry w x) 1 0) t.steps u.steps same.steps) in
     let weights : in_order weight_key t.weights ≡ in_order weight_key u.weights = in_any_order weight_key same_entry same_weight_key t.weights u.weights same.weights once.weights in
-    subst (λ ws. AreBoundsLines names e (seats_of u) (groups is_one_scope ws) lines) weights
-    (subst (λ f. AreBoundsLines names e f (groups is_one_scope (in_order weight_key t.weights)) lines) (λ i w. seats w i) are)
+    (found, subst (λ ws. AreScopeBounds (seats_of u) (groups is_one_scope ws) found) weights (subst (λ f. AreScopeBounds f (scope_weights t) found) (λ i w. seats w i) are), is)
 
 -- the short text is of the lists and the winners' places alone
 same_short_text : (e : Election) (t u : SeatTable) → SameTable t u → short_text t e ≡ short_text u e
@@ -117,7 +116,7 @@ same_short_text e t u same =
 
 pub same_text : (names : List (List ℕ)) (e : Election) (t u : SeatTable) (x y : List ℕ) → SameTable t u → RecordsComeOnce t → IsStepsText names t e x → IsStepsText names u e y → x ≡ y
 same_text names e t u x y same once of_t of_u =
-    let bounds : of_t.0 ≡ of_u.0 = one_bounds_lines names e (seats_of u) (scope_weights u) of_t.0 of_u.0 (same_bounds_lines names e t u of_t.0 same once of_t.1) of_u.1 in
+    let bounds : of_t.0 ≡ of_u.0 = one_bounds_lines names u e of_t.0 of_u.0 (same_bounds_lines names e t u of_t.0 same once of_t.1) of_u.1 in
     of_t.2
     ∙ ap (λ xs. flat_map (step_line names e) xs ++ (of_t.0 ++ short_text t e)) (in_any_order step_key same_seat same_step_key t.steps u.steps same.steps once.steps)
     ∙ (λ i. steps_lines names u e ++ (bounds i ++ same_short_text e t u same i))
@@ -125,4 +124,4 @@ same_text names e t u x y same once of_t of_u =
 
 pub one_steps_text : (names : List (List ℕ)) (t : SeatTable) (e : Election) (x y : List ℕ) → IsStepsText names t e x → IsStepsText names t e y → x ≡ y
 one_steps_text names t e x y is is_too =
-    is.2 ∙ ap (λ bounds. steps_lines names t e ++ (bounds ++ short_text t e)) (one_bounds_lines names e (seats_of t) (scope_weights t) is.0 is_too.0 is.1 is_too.1) ∙ sym is_too.2
+    is.2 ∙ ap (λ bounds. steps_lines names t e ++ (bounds ++ short_text t e)) (one_bounds_lines names t e is.0 is_too.0 is.1 is_too.1) ∙ sym is_too.2

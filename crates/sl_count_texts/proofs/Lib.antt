@@ -9,7 +9,7 @@ pub mod ChunkedGroups
 pub mod Tests
 pub mod EntrySeats
 pub mod BoundsWeights
-pub mod BoundsLines
+pub mod FoundBounds
 pub mod Keys
 pub mod SeatCounts
 pub mod KeyOrder

@@ -1,5 +1,5 @@
--- The lines of the bounds of a table's scopes (docs/output.md, section 1).
-use Rattle.std.specs.Prelude.{◌≡◌, ℕ, ◌<◌, ◌≤◌, ◌⊎◌, Bool, ◌&&◌, List, [], ◌∷◌, ◌++◌, All, Option, Some, None, map, sum, count_by, codes, nat_eq, if◌then◌else◌}
+-- The bounds of a table's scopes, and their lines (docs/output.md, section 1).
+use Rattle.std.specs.Prelude.{◌≡◌, ℕ, ◌<◌, ◌≤◌, ◌⊎◌, Bool, ◌&&◌, List, [], ◌∷◌, ◌++◌, All, Option, Some, None, map, flat_map, sum, count_by, codes, nat_eq, if◌then◌else◌}
 use Rattle.std.specs.Ordering.{is_eq}
 use Rattle.sl_base_quotients.specs.declared.limits.TheConstants.{MAX_WEIGHT, MAX_SEATS}
 use Rattle.sl_base_quotients.specs.declared.method.Divisor.{Divisor}
@@ -14,6 +14,7 @@ use Rattle.sl_law_meaning.specs.returns.Election.{Election}
 use Rattle.sl_count_texts.specs.Faults.{stage_word, scope_words}
 use Rattle.sl_count_texts.specs.Lines.{line, ratio_word}
 use Rattle.sl_count_texts.specs.Orders.{weight_key, in_order}
+use Rattle.sl_count_texts.specs.declared.bounds.ScopeBounds.{ScopeBounds}
 
 -- ---- the weights of each scope
 
@@ -46,7 +47,7 @@ is_of_entry w x = (nat_eq w.stage x.stage && same_scope w.scope x.scope) && same
 abbrev pub seats_of : SeatTable → Weight → ℕ
 seats_of t w = count_by (is_of_entry w) t.steps
 
--- ---- lines
+-- ---- bounds
 
 -- a weight for which bounds are given, by a method
 pub record IsBoundsWeight (method : Divisor) (w : Weight) : Type 0 where
@@ -68,30 +69,40 @@ IsToldPair method ws seats pair =
     (TellsBounds method ws seats × AreBounds method (map (λ w. w.weight) ws) seats pair)
     ⊎ ((¬ TellsBounds method ws seats) × (pair ≡ None))
 
--- after two equal bounds: a lot decided between them
-abbrev pub lot_words : Quotient → Quotient → List (List ℕ)
-lot_words last next = if is_eq (compare last next) then codes "lot" ∷ [] else []
+-- the pair that is told of a scope, of the first weight's stage and scope
+abbrev pub told : Weight → Option (Quotient × Quotient) → List ScopeBounds
+told w (Some (last, next)) = record { stage = w.stage; scope = w.scope; last = last; next = next } ∷ []
+told w None = []
+
+-- where each weight's entry has so many seats
+module _ (seats : Weight → ℕ) where
+  -- the bounds of a scope, by its weights: one pair or none. The first of them names the method
+  abbrev pub IsBoundsOf : List Weight → List ScopeBounds → Type 0
+  IsBoundsOf [] found = found ≡ []
+  IsBoundsOf (w ∷ ws) found =
+      (pair : Option (Quotient × Quotient)) × IsToldPair w.divisor (w ∷ ws) (map seats (w ∷ ws)) pair × (found ≡ told w pair)
+
+  -- the bounds of scopes, one after another
+  abbrev pub AreScopeBounds : List (List Weight) → List ScopeBounds → Type 0
+  AreScopeBounds [] found = found ≡ []
+  AreScopeBounds (ws ∷ scopes) found = (first rest : List ScopeBounds) × IsBoundsOf ws first × AreScopeBounds scopes rest × (found ≡ first ++ rest)
+
+-- the bounds of a table's scopes
+abbrev pub AreBoundsOf : SeatTable → List ScopeBounds → Type 0
+AreBoundsOf t found = AreScopeBounds (seats_of t) (scope_weights t) found
+
+-- a lot decided between two bounds: they are equal
+abbrev pub is_lot : ScopeBounds → Bool
+is_lot b = is_eq (compare b.last b.next)
+
+-- ---- lines
 
 module _ (names : List (List ℕ)) (e : Election) where
-  -- the line of a scope, which is that of a weight
-  abbrev pub pair_line : Weight → Option (Quotient × Quotient) → List ℕ
-  pair_line w (Some (last, next)) =
-      line (codes "bounds" ∷ stage_word names w.stage ∷ scope_words e w.scope ++ (ratio_word last ∷ ratio_word next ∷ lot_words last next))
-  pair_line w None = []
-
-  -- where each weight's entry has so many seats
-  module _ (seats : Weight → ℕ) where
-    -- the line of a scope, by its weights. The first of them names the method
-    abbrev pub IsBoundsLine : List Weight → List ℕ → Type 0
-    IsBoundsLine [] text = text ≡ []
-    IsBoundsLine (w ∷ ws) text =
-        (pair : Option (Quotient × Quotient)) × IsToldPair w.divisor (w ∷ ws) (map seats (w ∷ ws)) pair × (text ≡ pair_line w pair)
-
-    -- the lines of scopes, one after another
-    abbrev pub AreBoundsLines : List (List Weight) → List ℕ → Type 0
-    AreBoundsLines [] text = text ≡ []
-    AreBoundsLines (ws ∷ scopes) text = (first rest : List ℕ) × IsBoundsLine ws first × AreBoundsLines scopes rest × (text ≡ first ++ rest)
+  -- the line of a scope's bounds
+  abbrev pub bounds_line : ScopeBounds → List ℕ
+  bounds_line b =
+      line (codes "bounds" ∷ stage_word names b.stage ∷ scope_words e b.scope ++ (ratio_word b.last ∷ ratio_word b.next ∷ (if is_lot b then codes "lot" ∷ [] else [])))
 
 -- the lines of the bounds of a table's scopes, where the stages have those names
 abbrev pub IsBoundsLines : List (List ℕ) → SeatTable → Election → List ℕ → Type 0
-IsBoundsLines names t e text = AreBoundsLines names e (seats_of t) (scope_weights t) text
+IsBoundsLines names t e text = (found : List ScopeBounds) × AreBoundsOf t found × (text ≡ flat_map (bounds_line names e) found)

@@ -1,23 +1,18 @@
-//! The lines of the bounds of a table's scopes, by the weights and the seats of their entries.
+//! The lines of the bounds of a table's scopes.
 
-ghost use Rattle.std.specs.Prelude.{◌≡◌, ◌+◌, ◌^◌, ◌<◌, ◌≤◌, false, Some, All, IfOk, OnOk, MatchBool, MatchOption, length, map, option_map, sum, count_by, nat_lt};
-ghost use Rattle.sl_code_semantics.specs.Fits.{FitsWeight};
-ghost use Rattle.sl_count_texts.specs.Bounds.{is_one_scope, groups, is_of_entry, IsBoundsWeight, IsToldPair, lot_words, pair_line, IsBoundsLine, IsBoundsLines};
+ghost use Rattle.std.specs.Prelude.{◌≡◌, ◌∷◌, [], false, All, OnOk, codes, length, map, if◌then◌else◌};
+ghost use Rattle.sl_code_semantics.specs.Fits.{FitsWeight, HasScope};
+ghost use Rattle.sl_count_texts.specs.Bounds.{bounds_line, IsBoundsLines};
 ghost use Rattle.sl_count_texts.specs.Lines.{with_lines, with_words};
-ghost use Rattle.sl_count_texts.specs.inner.Counts.{count_of, CountsOne, counted_seats, IsWithin, HasLines};
+ghost use Rattle.sl_count_texts.specs.inner.Counts.{HasLines};
 
+use crate::bounds::{ScopeBounds, bounds_in_order};
 use crate::fault_form::{scope_words, stage_word};
 use crate::line::Text;
-use crate::orders::{entry_key, weights_in_order};
-use sl_base_quotients::{Divisor, MAX_SEATS, MAX_WEIGHT, NoMemory, Ratio};
+use sl_base_quotients::NoMemory;
 use sl_code_instructions::Code;
-use sl_ratio::bounds;
-use sl_stages::{Returns, SeatStep, Table, Weight};
+use sl_stages::{Returns, Table};
 use std::alloc::Global;
-use std::collections::HashMap;
-
-// How many seats each entry has in each scope, by the key of the stage, the scope and the entry.
-type SeatCounts = HashMap<[u64; 7], u64>;
 
 // Appends the lines of the bounds of a table's scopes, by stage and scope, to a text whose last line is ended.
 pub(crate) fn bounds_lines(
@@ -31,210 +26,39 @@ pub(crate) fn bounds_lines(
     requires fits { All (FitsWeight (length code.now.stages) returns.now) table.now.weights }
     ensures { OnOk result (HasLines text.old (IsBoundsLines (map (λ s. s.name) code.now.stages) table.now returns.now) text.new) }
 {
-    let weights = weights_in_order(alloc, table)?;
-    let scopes = scopes_of(alloc, &weights)?;
-    let counts = count_seats(alloc, table.steps())?;
-    for scope in &scopes {
-        bounds_line(alloc, text, *scope, &counts, returns, code)?;
+    let found = bounds_in_order(alloc, table)?;
+    for bounds in &found {
+        bounds_line(text, bounds, returns, code)?;
     }
     Ok(())
 }
 
-// ---- the weights and the seats of a scope
-
-fn is_one_scope(first: &Weight, second: &Weight) -> bool
-    ensures { result ≡ is_one_scope first.now second.now }
+// Adds the word of a lot to the line, if there was one.
+fn lot_word(text: &mut Text, is_lot: bool) -> Result<(), NoMemory>
+    ensures { OnOk result (text.new ≡ with_words text.old (if is_lot then codes "lot" ∷ [] else [])) }
 {
-    first.stage == second.stage && first.scope == second.scope
-}
-
-// The weights of each scope, of weights in order.
-fn scopes_of<'a>(
-    alloc: Global,
-    weights: &'a [&'a Weight],
-) -> Result<Vec<&'a [&'a Weight]>, NoMemory>
-    ensures { IfOk result (λ scopes. map (λ s. map (λ w. w.now) s.now) scopes.items ≡ groups is_one_scope (map (λ w. w.now) weights.now)) }
-{
-    let scopes = weights
-        .chunk_by(
-            |first, second|
-                ensures { result ≡ is_one_scope first.now.now second.now.now }
-            { is_one_scope(first, second) },
-        )
-        .collect(alloc)?;
-    Ok(scopes)
-}
-
-// Counts a key once more.
-fn count_one(counts: &mut SeatCounts, key: [u64; 7]) -> Result<(), NoMemory>
-    requires { count_of counts.old key + 1 < 2 ^ 64 }
-    ensures { OnOk result (CountsOne counts.old counts.new key) }
-{
-    *counts.entry(key)?.or_insert(0) += 1;
-    Ok(())
-}
-
-// Counts the seat steps of each stage, scope and entry.
-fn count_seats(alloc: Global, steps: &[SeatStep]) -> Result<SeatCounts, NoMemory>
-    ensures { IfOk result (λ counts. (w : Weight) → counted_seats counts w ≡ count_by (is_of_entry w) steps.now) }
-{
-    let mut counts = HashMap::new(alloc);
-    for step in steps {
-        let key = entry_key(step.stage, step.scope, step.entry);
-        count_one(&mut counts, key)?;
-    }
-    Ok(counts)
-}
-
-// The seats of a weight's entry, unless they are past the limit.
-fn entry_seats(weight: &Weight, counts: &SeatCounts) -> Option<u32>
-    ensures { MatchOption result (MAX_SEATS < counted_seats counts.now weight.now) (λ seats. (seats ≡ counted_seats counts.now weight.now) × (seats ≤ MAX_SEATS)) }
-{
-    let key = entry_key(weight.stage, weight.scope, weight.entry);
-    let seats = counts.get(&key).copied().unwrap_or(0);
-    if seats <= u64::from(MAX_SEATS) {
-        Some(seats as u32)
-    } else {
-        None
-    }
-}
-
-// The seats of the entries, unless those of one are past the limit.
-fn seats_within(
-    alloc: Global,
-    scope: &[&Weight],
-    counts: &SeatCounts,
-) -> Result<Option<Vec<u32>>, NoMemory>
-    ensures { IfOk result (λ seats. IsWithin (λ s. s ≤ MAX_SEATS) (map (λ w. counted_seats counts.now w.now) scope.now) (option_map (λ s. s.items) seats)) }
-{
-    let mut seats = Vec::new(alloc);
-    for weight in scope {
-        let Some(held) = entry_seats(*weight, counts) else {
-            return Ok(None);
-        };
-        seats.push(held)?;
-    }
-    Ok(Some(seats))
-}
-
-// Whether bounds are given for a weight by a method.
-fn is_bounds_weight(method: Divisor, weight: &Weight) -> bool
-    ensures { MatchBool result (IsBoundsWeight method weight.now) (¬ IsBoundsWeight method weight.now) }
-{
-    weight.divisor == method && 1 <= weight.weight && weight.weight <= MAX_WEIGHT
-}
-
-// Whether bounds are given for weights by a method.
-fn are_bounds_weights(method: Divisor, scope: &[&Weight]) -> bool
-    ensures { MatchBool result (All (IsBoundsWeight method) (map (λ w. w.now) scope.now)) (¬ All (IsBoundsWeight method) (map (λ w. w.now) scope.now)) }
-{
-    scope.iter().all(
-        |weight|
-            ensures { MatchBool result (IsBoundsWeight method weight.now.now) (¬ IsBoundsWeight method weight.now.now) }
-        { is_bounds_weight(method, weight) },
-    )
-}
-
-// The weights of a scope, as numbers.
-fn weights_of(alloc: Global, scope: &[&Weight]) -> Result<Vec<u64>, NoMemory>
-    ensures { IfOk result (λ weights. weights.items ≡ map (λ w. w.weight) (map (λ w. w.now) scope.now)) }
-{
-    let weights = scope
-        .iter()
-        .map(
-            |weight|
-                ensures { result ≡ weight.now.now.weight }
-            { weight.weight },
-        )
-        .collect(alloc)?;
-    Ok(weights)
-}
-
-// Whether a seat is among these seats of entries.
-fn is_awarded(seats: &[u32]) -> bool
-    ensures { MatchBool result (0 < sum seats.now) (sum seats.now ≡ 0) }
-{
-    seats.iter().any(
-        |held|
-            ensures { result ≡ nat_lt 0 held.now }
-        { *held > 0 },
-    )
-}
-
-// The bounds that are given for a scope, by a method.
-fn scope_bounds(
-    alloc: Global,
-    method: Divisor,
-    scope: &[&Weight],
-    counts: &SeatCounts,
-) -> Result<Option<(Ratio, Ratio)>, NoMemory>
-    ensures { IfOk result (IsToldPair method (map (λ w. w.now) scope.now) (map (λ w. counted_seats counts.now w.now) scope.now)) }
-{
-    if !method.is_rounding() || !are_bounds_weights(method, scope) {
-        return Ok(None);
-    }
-    let Some(seats) = seats_within(alloc, scope, counts)? else {
-        return Ok(None);
-    };
-    if !is_awarded(&seats) {
-        return Ok(None);
-    }
-    let weights = weights_of(alloc, scope)?;
-    Ok(bounds(method, &weights, &seats))
-}
-
-// Adds the word of a lot to the line, where the bounds are equal.
-fn lot_words(text: &mut Text, last: Ratio, next: Ratio) -> Result<(), NoMemory>
-    ensures { OnOk result (text.new ≡ with_words text.old (lot_words last next)) }
-{
-    if last.cmp(&next).is_eq() {
+    if is_lot {
         text.word(b"lot")?;
     }
     Ok(())
 }
 
-// ---- lines, each appended to a text whose last line is ended
-
-// The line of a weight's scope, which has this pair of bounds.
-fn pair_line(
-    text: &mut Text,
-    weight: &Weight,
-    pair: (Ratio, Ratio),
-    returns: &Returns,
-    code: &Code,
-) -> Result<(), NoMemory>
-    requires begun { text.old.begun ≡ false }
-    requires fits { FitsWeight (length code.now.stages) returns.now weight.now }
-    ensures { OnOk result (text.new ≡ with_lines text.old (pair_line (map (λ s. s.name) code.now.stages) returns.now weight.now (Some pair))) }
-{
-    let (last, next) = pair;
-    text.word(b"bounds")?;
-    stage_word(text, weight.stage, code)?;
-    scope_words(text, weight.scope, returns)?;
-    text.ratio(last)?;
-    text.ratio(next)?;
-    lot_words(text, last, next)?;
-    text.end_line()
-}
-
-// The line of a scope, if it has one.
+// Appends the line of a scope's bounds to a text whose last line is ended.
 fn bounds_line(
-    alloc: Global,
     text: &mut Text,
-    scope: &[&Weight],
-    counts: &SeatCounts,
+    bounds: &ScopeBounds,
     returns: &Returns,
     code: &Code,
 ) -> Result<(), NoMemory>
     requires begun { text.old.begun ≡ false }
-    requires fits { All (FitsWeight (length code.now.stages) returns.now) (map (λ w. w.now) scope.now) }
-    ensures { OnOk result (HasLines text.old (IsBoundsLine (map (λ s. s.name) code.now.stages) returns.now (counted_seats counts.now) (map (λ w. w.now) scope.now)) text.new) }
+    requires fits { HasScope returns.now bounds.now.scope }
+    ensures { OnOk result (text.new ≡ with_lines text.old (bounds_line (map (λ s. s.name) code.now.stages) returns.now bounds.now)) }
 {
-    let Some(first) = scope.first() else {
-        return Ok(());
-    };
-    let Some(pair) = scope_bounds(alloc, first.divisor, scope, counts)? else {
-        return Ok(());
-    };
-    pair_line(text, first, pair, returns, code)
+    text.word(b"bounds")?;
+    stage_word(text, bounds.stage, code)?;
+    scope_words(text, bounds.scope, returns)?;
+    text.ratio(bounds.last)?;
+    text.ratio(bounds.next)?;
+    lot_word(text, bounds.is_lot())?;
+    text.end_line()
 }

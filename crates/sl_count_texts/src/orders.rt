@@ -67,8 +67,8 @@ fn step_key(step: &SeatStep) -> [u64; 9]
     ]
 }
 
-// The steps of a table in order, those of one key as they stand in the table.
-pub(crate) fn steps_in_order(alloc: Global, table: &Table) -> Result<Vec<&SeatStep>, NoMemory>
+/// The steps of a table in order, those of one key as they stand in the table (docs/output.md, section 1).
+pub fn steps_in_order(alloc: Global, table: &Table) -> Result<Vec<&SeatStep>, NoMemory>
     ensures { IfOk result (λ steps. map (λ s. s.now) steps.items ≡ in_order step_key table.now.steps) }
 {
     let mut steps: Vec<&SeatStep> = table.steps().iter().collect(alloc)?;

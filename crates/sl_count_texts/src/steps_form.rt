@@ -38,7 +38,8 @@ pub fn steps_text(
 
 // ---- words, each added to the last line of a text
 
-fn mark_words(text: &mut Text, mark: Mark) -> Result<(), NoMemory>
+/// Adds the words of what won a seat.
+pub fn mark_words(text: &mut Text, mark: Mark) -> Result<(), NoMemory>
     ensures { OnOk result (text.new ≡ with_words text.old (mark_words mark)) }
 {
     match mark {

@@ -15,7 +15,7 @@ use Rattle.sl_report_commands.specs.declared.written.Style.{Style}
 use Rattle.sl_report_forms.specs.declared.heading.Heading.{Heading}
 use Rattle.sl_report_tables.specs.declared.answer.Answer.{Answer}
 use Rattle.sl_report_tables.specs.declared.answer.Shape.{Shape}
-use Rattle.sl_report_tables.specs.declared.counts.Show.TheVariants.{Report, Short, Stages}
+use Rattle.sl_report_tables.specs.declared.counts.Show.TheVariants.{Report, Seats, Short, Stages, Steps}
 use Rattle.sl_report_tables.specs.declared.counts.Show.{Show}
 
 -- the text of an answer in a form: of this command, in this language, with these digests
@@ -28,6 +28,8 @@ pub record IsWritten (IsText : Shape → Heading → Answer → List ℕ → Typ
 
 -- the command that shows a count
 abbrev pub command_of : Show → List ℕ
+command_of Seats = codes "count"
+command_of Steps = codes "steps"
 command_of Report = codes "report"
 command_of (Short earlier) = codes "report --short"
 command_of Stages = codes "stages"

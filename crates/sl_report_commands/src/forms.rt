@@ -2,6 +2,7 @@
 
 ghost use Rattle.std.specs.Prelude.{IfOk, List, ⊤, ℕ};
 ghost use Rattle.sl_report_forms.specs.declared.heading.Heading.{Heading as Headed};
+ghost use Rattle.sl_report_tables.specs.Answers.{IsAnswerText};
 ghost use Rattle.sl_report_tables.specs.declared.answer.Answer.{Answer as Answered};
 ghost use Rattle.sl_report_tables.specs.declared.answer.Shape.{Shape as Shaped};
 
@@ -32,6 +33,8 @@ pub trait Forms {
 pub struct AllForms;
 
 impl Forms for AllForms {
+    ghost is_text = { λ forms shape heading answer text. IsAnswerText shape answer text };
+
     fn text(
         &self,
         alloc: Global,

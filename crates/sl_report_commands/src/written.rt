@@ -337,6 +337,8 @@ fn command_of(show: Show<'_>) -> &'static str
     ensures { result.now ≡ command_of show.entry }
 {
     match show {
+        Show::Seats => "count",
+        Show::Steps => "steps",
         Show::Report => "report",
         Show::Short(_) => "report --short",
         Show::Stages => "stages",

@@ -1,0 +1,2 @@
+mod CommaReading
+mod CommaWriting

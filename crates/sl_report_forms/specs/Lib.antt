@@ -1,3 +1,6 @@
--- What stands in the cells of sheets.
+-- What stands in the cells of sheets, their texts, and the forms of sheets.
 pub mod Cells
+pub mod CellTexts
+pub mod CommaForm
+pub mod Drafts
 pub mod Tables

@@ -1,6 +1,9 @@
 //! The cells of a sheet.
 
-use crate::draft::{Draft, copied};
+ghost use Rattle.std.specs.Prelude.{◌≡◌, IfOk, string_bytes};
+ghost use Rattle.sl_report_forms.specs.CellTexts as spec;
+
+use crate::draft::copied;
 use sl_base_quotients::NoMemory;
 use std::alloc::Global;
 use std::cmp::Ordering;
@@ -17,24 +20,14 @@ pub enum Cell {
     Word { key: String, shown: String },
     /// A flag, and the word for it that a person reads.
     Flag { is: bool, shown: &'static str },
-    /// Names, at least one: each as programs know it, and all as a person reads them.
+    /// Names, at least one, and none of them with a blank: each as programs know it, and all as a person reads them.
     Names { keys: Vec<String>, shown: String },
 }
 
-// Names separated by blanks, as none of them has one.
-fn listed(alloc: Global, names: &[String]) -> Result<String, NoMemory> {
-    let mut text = Draft::new(alloc);
-    for name in names {
-        if !text.is_empty() {
-            text.push(' ');
-        }
-        text.push_str(name.as_str());
-    }
-    text.finished()
-}
-
 // The difference of two numbers, with this sign where the first is the greater one.
-fn change_text(alloc: Global, more: &str, number: u64, before: u64) -> Result<String, NoMemory> {
+fn change_text(alloc: Global, more: &str, number: u64, before: u64) -> Result<String, NoMemory>
+    ensures { IfOk result (λ t. string_bytes t ≡ spec.change_text more.now number before) }
+{
     let sign = match number.cmp(&before) {
         Ordering::Less => "-",
         Ordering::Equal => "",
@@ -46,12 +39,14 @@ fn change_text(alloc: Global, more: &str, number: u64, before: u64) -> Result<St
 
 impl Cell {
     /// What a program reads of the cell, whatever the language.
-    pub fn key(&self, alloc: Global) -> Result<String, NoMemory> {
+    pub fn key(&self, alloc: Global) -> Result<String, NoMemory>
+        ensures { IfOk result (λ t. string_bytes t ≡ spec.key_text self.now) }
+    {
         let key = match self {
             Cell::Word { key, .. } => key.as_str(),
             Cell::Flag { is: true, .. } => "yes",
             Cell::Flag { is: false, .. } => "no",
-            Cell::Names { keys, .. } => return listed(alloc, keys.as_slice()),
+            Cell::Names { keys, .. } => return Ok(keys.join(alloc, " ")?),
             Cell::Change(number, before) => return change_text(alloc, "", *number, *before),
             Cell::Empty | Cell::Text(_) | Cell::Number(_) => return self.shown(alloc),
         };
@@ -59,7 +54,9 @@ impl Cell {
     }
 
     /// What a person reads of the cell.
-    pub fn shown(&self, alloc: Global) -> Result<String, NoMemory> {
+    pub fn shown(&self, alloc: Global) -> Result<String, NoMemory>
+        ensures { IfOk result (λ t. string_bytes t ≡ spec.shown_text self.now) }
+    {
         let shown = match self {
             Cell::Empty => "",
             Cell::Text(text) => text.as_str(),

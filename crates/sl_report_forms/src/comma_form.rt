@@ -1,111 +1,108 @@
 //! Sheets as comma-separated values. Each line begins with the key of its sheet, and the first line of a key has those of the columns.
 
+ghost use Rattle.std.specs.Prelude.{◌≡◌, [], ◌∷◌, IfOk, OnOk};
+ghost use Rattle.std.specs.List.{list_any};
+ghost use Rattle.csv.specs.Records.{fields_of};
+ghost use Rattle.sl_report_forms.specs.CommaForm as spec;
+
 use crate::cell::Cell;
-use crate::draft::Draft;
-use crate::sheet::{Head, Sheet};
+use crate::sheet::Sheet;
+use csv::{ByteRecord, Writer, WriterBuilder};
 use sl_base_quotients::NoMemory;
 use std::alloc::Global;
 
-// Whether a text has a character that must stand between quotes.
-fn is_quoted(text: &str) -> bool {
-    text.contains([',', '"', '\n', '\r'])
-}
-
-// Adds a character of a text between quotes: a quote is doubled.
-fn put_character(out: &mut Draft, character: char) {
-    if character == '"' {
-        out.push('"');
+fn put_fields(out: &mut Writer<Vec<u8>>, fields: &ByteRecord) -> Result<(), NoMemory>
+    ensures { OnOk result (spec.AddsRecords out.old out.new (fields_of fields.now ∷ [])) }
+{
+    if out.write_byte_record(fields).is_err() {
+        return Err(NoMemory);
     }
-    out.push(character);
-}
-
-fn put_quoted(out: &mut Draft, text: &str) {
-    out.push('"');
-    for character in text.chars() {
-        put_character(out, character);
-    }
-    out.push('"');
-}
-
-// Adds a cell's text, between quotes where it must.
-fn put_cell(out: &mut Draft, text: &str) {
-    if is_quoted(text) {
-        put_quoted(out, text);
-    } else {
-        out.push_str(text);
-    }
-}
-
-// Adds the text of a cell that is not the first one of its line.
-fn put_next(out: &mut Draft, text: &str) {
-    out.push(',');
-    put_cell(out, text);
-}
-
-fn put_heads(out: &mut Draft, key: &str, heads: &[Head]) {
-    put_cell(out, key);
-    for head in heads {
-        put_next(out, head.key.as_str());
-    }
-    out.push('\n');
-}
-
-fn put_value(alloc: Global, out: &mut Draft, cell: &Cell) -> Result<(), NoMemory> {
-    let text = cell.key(alloc)?;
-    put_next(out, text.as_str());
     Ok(())
 }
 
-fn put_row(alloc: Global, out: &mut Draft, key: &str, row: &[Cell]) -> Result<(), NoMemory> {
-    put_cell(out, key);
+fn put_heads(alloc: Global, out: &mut Writer<Vec<u8>>, sheet: &Sheet) -> Result<(), NoMemory>
+    ensures { OnOk result (spec.AddsRecords out.old out.new (spec.heads_record sheet.now ∷ [])) }
+{
+    let mut fields = ByteRecord::new(alloc);
+    fields.push_field(sheet.key.as_bytes())?;
+    for head in &sheet.heads {
+        fields.push_field(head.key.as_bytes())?;
+    }
+    put_fields(out, &fields)
+}
+
+fn put_row(
+    alloc: Global,
+    out: &mut Writer<Vec<u8>>,
+    key: &str,
+    row: &[Cell],
+) -> Result<(), NoMemory>
+    ensures { OnOk result (spec.AddsRecords out.old out.new (spec.row_record key.now row.now ∷ [])) }
+{
+    let mut fields = ByteRecord::new(alloc);
+    fields.push_field(key.as_bytes())?;
     for cell in row {
-        put_value(alloc, out, cell)?;
+        let text = cell.key(alloc)?;
+        fields.push_field(text.as_bytes())?;
     }
-    out.push('\n');
-    Ok(())
+    put_fields(out, &fields)
 }
 
-fn put_rows(alloc: Global, out: &mut Draft, sheet: &Sheet) -> Result<(), NoMemory> {
+fn put_rows(alloc: Global, out: &mut Writer<Vec<u8>>, sheet: &Sheet) -> Result<(), NoMemory>
+    ensures { OnOk result (spec.AddsRecords out.old out.new (spec.rows_records sheet.now)) }
+{
     for row in &sheet.rows {
         put_row(alloc, out, sheet.key, row.as_slice())?;
     }
     Ok(())
 }
 
-// Whether the sheet of that number is the first one of its key.
-fn is_first(sheets: &[Sheet], number: usize, key: &str) -> bool {
-    for (place, sheet) in sheets.iter().enumerate() {
+// Whether one of the sheets has that key.
+fn has_key(sheets: &[Sheet], key: &str) -> bool
+    ensures { result ≡ list_any (spec.has_key key.now) sheets.now }
+{
+    for sheet in sheets {
         if sheet.key == key {
-            return place == number;
+            return true;
         }
     }
-    true
+    false
 }
 
-// Adds a sheet, with its heads where it is the first one of its key.
+// Adds a sheet that stands after these ones, with its heads where it is the first one of its key.
 fn put_sheet(
     alloc: Global,
-    out: &mut Draft,
+    out: &mut Writer<Vec<u8>>,
+    before: &[Sheet],
     sheet: &Sheet,
-    is_first: bool,
-) -> Result<(), NoMemory> {
-    if is_first {
-        put_heads(out, sheet.key, sheet.heads.as_slice());
+) -> Result<(), NoMemory>
+    ensures { OnOk result (spec.AddsRecords out.old out.new (spec.sheet_records before.now sheet.now)) }
+{
+    if !has_key(before, sheet.key) {
+        put_heads(alloc, out, sheet)?;
     }
     put_rows(alloc, out, sheet)
 }
 
-fn put_sheets(alloc: Global, out: &mut Draft, sheets: &[Sheet]) -> Result<(), NoMemory> {
+fn put_sheets(alloc: Global, out: &mut Writer<Vec<u8>>, sheets: &[Sheet]) -> Result<(), NoMemory>
+    ensures { OnOk result (spec.AddsRecords out.old out.new (spec.comma_records sheets.now)) }
+{
     for (number, sheet) in sheets.iter().enumerate() {
-        let is_first = is_first(sheets, number, sheet.key);
-        put_sheet(alloc, out, sheet, is_first)?;
+        put_sheet(alloc, out, &sheets[..number], sheet)?;
     }
     Ok(())
 }
 
-/// Sheets as comma-separated values.
-pub fn comma_text(alloc: Global, sheets: &[Sheet]) -> Result<String, NoMemory> {
-    let mut out = Draft::new(alloc);
-    let put = put_sheets(alloc, &mut out, sheets);
-    put.and(out.finished())
+/// Sheets as comma-separated values, in which `csv` reads the same records again.
+pub fn comma_text(alloc: Global, sheets: &[Sheet]) -> Result<Vec<u8>, NoMemory>
+    ensures { IfOk result (λ t. spec.IsCommaText sheets.now t.items) }
+{
+    let mut out = WriterBuilder::new()
+        .flexible(true)
+        .from_writer(Vec::new(alloc));
+    put_sheets(alloc, &mut out, sheets)?;
+    match out.into_inner() {
+        Ok(text) => Ok(text),
+        Err(_) => Err(NoMemory),
+    }
 }

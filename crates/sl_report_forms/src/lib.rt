@@ -1,7 +1,8 @@
 //! Sheets of rows, and their forms: aligned text, Markdown, HTML, comma-separated values, and JSON.
 //!
-//! Stands on `sl_explain_texts`; used by the room report. Proved: what stands in the cells of each row, and the digest of
-//! an input. Only tested: the five forms.
+//! Stands on `sl_explain_texts`; used by the room report. Proved: what stands in the cells of each row, the text of a cell as
+//! a program and as a person read it, the comma-separated values of sheets, in which `csv` reads the records that were
+//! written, and the digest of an input. Only tested: the other four forms.
 //!
 //! Where an error is `NoMemory` alone, memory ran out, and nothing else is wrong.
 #![tactic(auto)]

@@ -5,3 +5,4 @@ pub mod Taking
 pub mod ContestSteps
 pub mod PressSteps
 pub mod LackingSteps
+pub mod WinnerPlaces

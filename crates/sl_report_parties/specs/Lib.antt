@@ -7,3 +7,4 @@ pub mod Cells
 pub mod Ranks
 pub mod Earlier
 pub mod Press
+pub mod inner

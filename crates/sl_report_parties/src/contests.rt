@@ -1,13 +1,16 @@
 //! The winners of lists with more winners than seats, ranked by their shares of first votes.
 
-ghost use Rattle.std.specs.Prelude.{◌≡◌, ◌&&◌, ◌++◌, ◌∷◌, [], IfOk, OnOk, false, count_by, if◌then◌else◌, option_map, slice_get, unwrap_or};
-ghost use Rattle.sl_report_parties.specs.Ranks.{AddsContested, AreByRank, AreContested, is_above, is_contested, is_on, rank_of, ranked_of, winners_of_list};
+ghost use Rattle.std.specs.Prelude.{◌≡◌, ◌+◌, IfOk, IfSome, OnOk, false, count_by, filter, is_some, map, option_map, slice_get, unwrap_or};
+ghost use Rattle.std.specs.List.{enumerate_from};
+ghost use Rattle.sl_report_parties.specs.Ranks.{AddsContested, AreByRank, AreContested, is_above, is_contested, is_on};
 ghost use Rattle.sl_report_parties.specs.Seats.{is_seated};
+ghost use Rattle.sl_report_parties.specs.inner.Winners.{AreOnLists, ranked_by};
 
 use crate::facts::Setting;
 use crate::votes::one_if;
+use crate::winners::{Numbered, winners_of_lists, winners_on};
 use sl_base_quotients::NoMemory;
-use sl_stages::{ListSeats, Placed, Returns, Table, Win};
+use sl_stages::{ListSeats, Placed, Table, Win};
 use std::alloc::Global;
 
 /// A winner on a contested list: the list, the winner's number, the first votes and the valid ones, the rank from 1, and whether the winner is
@@ -23,16 +26,6 @@ pub struct Ranked {
     pub seated: bool,
 }
 
-// Whether a winner is of a list.
-fn is_on(list: ListSeats, win: Win) -> bool
-    ensures { result ≡ is_on list win }
-{
-    match win.party {
-        Some(party) => party == list.party && win.land == list.land,
-        None => false,
-    }
-}
-
 // Whether the share of the first one is greater than that of the second.
 fn is_above(first: Win, second: Win) -> bool
     ensures { result ≡ is_above second first }
@@ -42,33 +35,15 @@ fn is_above(first: Win, second: Win) -> bool
     back < across
 }
 
-// Whether a winner is of a list and has a greater share than another.
-fn is_ahead(list: ListSeats, win: Win, other: Win) -> bool
-    ensures { result ≡ (is_on list other && is_above win other) }
-{
-    is_on(list, other) && is_above(other, win)
-}
-
 // The rank of a winner among those of a list: 1 more than those with a greater share.
-fn rank_of(returns: &Returns, list: ListSeats, win: Win) -> u64
-    ensures { result ≡ rank_of list win returns.now.wins }
+fn rank_of(own: &[Numbered], win: Win) -> u64
+    ensures { result ≡ count_by (λ other. is_above win other.1) own.now + 1 }
 {
     let mut ahead = 0u64;
-    for number in 0..returns.wins() {
-        ahead += one_if(is_ahead(list, win, returns.win(number)));
+    for (_, other) in own {
+        ahead += one_if(is_above(*other, win));
     }
     ahead.saturating_add(1)
-}
-
-// How many winners a list has.
-fn winners_on(returns: &Returns, list: ListSeats) -> u64
-    ensures { result ≡ count_by (is_on list) returns.now.wins }
-{
-    let mut winners = 0u64;
-    for number in 0..returns.wins() {
-        winners += one_if(is_on(list, returns.win(number)));
-    }
-    winners
 }
 
 // Whether a winner with that place sits in the house.
@@ -92,9 +67,9 @@ fn is_seated(table: &Table, win: usize) -> bool
     }
 }
 
-// The winner of that number, as one of a list.
-fn ranked_of(returns: &Returns, table: &Table, list: ListSeats, number: usize, win: Win) -> Ranked
-    ensures { result ≡ ranked_of table.now returns.now list (number, win) }
+// A winner of a list, by all of its winners.
+fn ranked_by(table: &Table, list: ListSeats, own: &[Numbered], number: usize, win: Win) -> Ranked
+    ensures { result ≡ ranked_by table.now list own.now (number, win) }
 {
     Ranked {
         land: list.land,
@@ -102,47 +77,23 @@ fn ranked_of(returns: &Returns, table: &Table, list: ListSeats, number: usize, w
         win: number,
         first: win.first,
         valid: win.valid,
-        rank: rank_of(returns, list, win),
+        rank: rank_of(own, win),
         seated: is_seated(table, number),
     }
-}
-
-// Adds the winner of that number, if the list is the winner's.
-fn push_ranked(
-    winners: &mut Vec<Ranked>,
-    returns: &Returns,
-    table: &Table,
-    list: ListSeats,
-    number: usize,
-    win: Win,
-) -> Result<(), NoMemory>
-    ensures { OnOk result (winners.new.items ≡ winners.old.items ++ (if is_on list win then ranked_of table.now returns.now list (number, win) ∷ [] else [])) }
-{
-    if is_on(list, win) {
-        winners.push(ranked_of(returns, table, list, number, win))?;
-    }
-    Ok(())
 }
 
 // The winners of a list, in the order of their records.
 fn winners_of_list(
     alloc: Global,
-    returns: &Returns,
     table: &Table,
     list: ListSeats,
+    own: &[Numbered],
 ) -> Result<Vec<Ranked>, NoMemory>
-    ensures { IfOk result (λ winners. winners.items ≡ winners_of_list table.now returns.now list) }
+    ensures { IfOk result (λ winners. winners.items ≡ map (ranked_by table.now list own.now) own.now) }
 {
     let mut winners: Vec<Ranked> = Vec::new(alloc);
-    for number in 0..returns.wins() {
-        push_ranked(
-            &mut winners,
-            returns,
-            table,
-            list,
-            number,
-            returns.win(number),
-        )?;
+    for (number, win) in own {
+        winners.push(ranked_by(table, list, own, *number, *win))?;
     }
     Ok(winners)
 }
@@ -150,13 +101,13 @@ fn winners_of_list(
 // The winners of a list, by rank.
 fn by_rank(
     alloc: Global,
-    returns: &Returns,
     table: &Table,
     list: ListSeats,
+    own: &[Numbered],
 ) -> Result<Vec<Ranked>, NoMemory>
-    ensures { IfOk result (λ winners. AreByRank (winners_of_list table.now returns.now list) winners.items) }
+    ensures { IfOk result (λ winners. AreByRank (map (ranked_by table.now list own.now) own.now) winners.items) }
 {
-    let mut winners = winners_of_list(alloc, returns, table, list)?;
+    let mut winners = winners_of_list(alloc, table, list, own)?;
     winners.sort_by_key(
         |winner|
             ensures { result ≡ winner.now.rank }
@@ -165,13 +116,25 @@ fn by_rank(
     Ok(winners)
 }
 
-// Whether a list of a party that takes part has more winners than seats.
-fn is_contested(setting: &Setting<'_>, list: ListSeats) -> bool
-    ensures { result ≡ is_contested setting.now.book.now.eligible.items setting.now.returns.now list }
+// The winners of a list of a party that takes part, if there are more of them than seats.
+fn contested_on<'a>(
+    setting: &Setting<'_>,
+    on_lists: &'a [Vec<Numbered>],
+    list: ListSeats,
+) -> Option<&'a [Numbered]>
+    requires { AreOnLists setting.now.returns.now (map (λ own. own.items) on_lists.now) }
+    ensures contested { is_some result ≡ is_contested setting.now.book.now.eligible.items setting.now.returns.now list }
+    ensures own { IfSome result (λ own. own.now ≡ filter (λ x. is_on list x.1) (enumerate_from 0 setting.now.returns.now.wins)) }
 {
-    list.seats < winners_on(setting.returns, list)
-        && list.party < setting.returns.parties()
-        && setting.takes_part(list.party)
+    if list.party >= setting.returns.parties() || !setting.takes_part(list.party) {
+        return None;
+    }
+    let own = winners_on(setting.returns, on_lists, list.land, list.party);
+    if list.seats < own.len() as u64 {
+        Some(own)
+    } else {
+        None
+    }
 }
 
 // Adds the winners of a list by rank, if the list is contested.
@@ -180,15 +143,16 @@ fn push_contested(
     winners: &mut Vec<Ranked>,
     setting: &Setting<'_>,
     table: &Table,
+    on_lists: &[Vec<Numbered>],
     list: ListSeats,
 ) -> Result<(), NoMemory>
+    requires { AreOnLists setting.now.returns.now (map (λ own. own.items) on_lists.now) }
     ensures { OnOk result (AddsContested setting.now.book.now.eligible.items table.now setting.now.returns.now list winners.old.items winners.new.items) }
 {
-    if !is_contested(setting, list) {
-        return Ok(());
+    if let Some(own) = contested_on(setting, on_lists, list) {
+        let ranked = by_rank(alloc, table, list, own)?;
+        winners.extend_from_slice(ranked.as_slice())?;
     }
-    let ranked = by_rank(alloc, setting.returns, table, list)?;
-    winners.extend_from_slice(ranked.as_slice())?;
     Ok(())
 }
 
@@ -200,9 +164,17 @@ pub fn contested(
 ) -> Result<Vec<Ranked>, NoMemory>
     ensures { IfOk result (λ found. AreContested setting.now.book.now.eligible.items table.now setting.now.returns.now found.items) }
 {
+    let on_lists = winners_of_lists(alloc, setting.returns)?;
     let mut winners = Vec::new(alloc);
     for list in table.lists() {
-        push_contested(alloc, &mut winners, setting, table, *list)?;
+        push_contested(
+            alloc,
+            &mut winners,
+            setting,
+            table,
+            on_lists.as_slice(),
+            *list,
+        )?;
     }
     Ok(winners)
 }

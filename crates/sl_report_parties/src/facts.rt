@@ -1,16 +1,17 @@
 //! The columns that a book can name, of returns.
 
-ghost use Rattle.std.specs.Prelude.{◌≡◌, ◌<◌, ◌∷◌, [], ◌++◌, map, IfOk, OnOk, count_by, unwrap_or, IsTrue};
+ghost use Rattle.std.specs.Prelude.{◌≡◌, ◌<◌, ◌∷◌, [], ◌++◌, map, IfOk, OnOk, unwrap_or, IsTrue};
 ghost use Rattle.sl_law_meaning.specs.book.Books.{book_of};
 ghost use Rattle.sl_law_meaning.specs.book.Typing.{fact_type, is_typed};
 ghost use Rattle.sl_law_meaning.specs.returns.Election.{IsElection, IsWin, lands_of, parties_of};
 ghost use Rattle.sl_law_meaning.specs.returns.Facts.{is_eligible, is_on_list, by_land, by_list, parties};
 ghost use Rattle.sl_law_meaning.specs.meaning.Columns.{fact_column};
 ghost use Rattle.sl_report_parties.specs.Parts.{part_of, parts_of};
-ghost use Rattle.sl_report_parties.specs.Cells.{is_outside, is_won, list_cell, land_cell};
+ghost use Rattle.sl_report_parties.specs.Cells.{list_cell, land_cell};
+ghost use Rattle.sl_report_parties.specs.inner.Winners.{AreOnLists, counts};
 
 use crate::parts::PartyPart;
-use crate::votes::{independents_in, one_if};
+use crate::winners::{Numbered, winners_of_lists, winners_on};
 use sl_base_quotients::NoMemory;
 use sl_stages::{Book, Column, Fact, Returns, Win};
 use std::alloc::Global;
@@ -34,27 +35,6 @@ pub fn house_of(book: &Book, returns: &Returns) -> u64
         Some(house) => u64::from(house),
         None => u64::from(book.house.value),
     }
-}
-
-// Whether a winner is of that party in that Land.
-fn is_won(win: Win, land: usize, party: usize) -> bool
-    ensures { result ≡ is_won land party win }
-{
-    match win.party {
-        Some(of) => win.land == land && of == party,
-        None => false,
-    }
-}
-
-/// How many winners a party has in a Land.
-pub fn winners_at(returns: &Returns, land: usize, party: usize) -> u64
-    ensures { result ≡ count_by (is_won land party) returns.now.wins }
-{
-    let mut winners = 0u64;
-    for number in 0..returns.wins() {
-        winners += one_if(is_won(returns.win(number), land, party));
-    }
-    winners
 }
 
 impl<'a> Setting<'a> {
@@ -108,39 +88,21 @@ impl<'a> Setting<'a> {
         }
     }
 
-    // Whether a winner is of that Land, and on no list that takes part.
-    fn is_outside(&self, win: Win, land: usize) -> bool
+    // Whether a winner counts for a fact of the winner's Land.
+    fn counts(&self, fact: Fact, win: Win) -> bool
         requires { IsWin (lands_of self.now.returns.now) (parties_of self.now.returns.now) win }
-        ensures { result ≡ is_outside self.now.book.now.eligible.items self.now.returns.now land win }
-    {
-        win.land == land && !self.is_on_list(win)
-    }
-
-    /// The winners in a Land who are on no list that takes part.
-    pub fn outside(&self, land: usize) -> u64
-        ensures { result ≡ count_by (is_outside self.now.book.now.eligible.items self.now.returns.now land) self.now.returns.now.wins }
-    {
-        let mut winners = 0u64;
-        for number in 0..self.returns.wins() {
-            winners += one_if(self.is_outside(self.returns.win(number), land));
-        }
-        winners
-    }
-
-    // A fact's number for a Land.
-    fn land_cell(&self, fact: Fact, land: usize) -> u64
-        requires { land < lands_of self.now.returns.now }
-        ensures { result ≡ land_cell self.now.book.now.eligible.items self.now.returns.now fact land }
+        ensures { result ≡ counts self.now.book.now.eligible.items self.now.returns.now fact win }
     {
         match fact {
-            Fact::Outside => self.outside(land),
-            Fact::Independents => independents_in(self.returns, land),
-            Fact::House | Fact::Counted | Fact::Winners | Fact::Population => 0,
+            Fact::Outside => !self.is_on_list(win),
+            Fact::Independents => win.party.is_none(),
+            Fact::House | Fact::Counted | Fact::Winners | Fact::Population => false,
         }
     }
 
-    // A fact's number for a list.
-    fn list_cell(&self, fact: Fact, land: usize, party: usize) -> u64
+    // A fact's number for a list, by the winners of each list.
+    fn list_cell(&self, on_lists: &[Vec<Numbered>], fact: Fact, land: usize, party: usize) -> u64
+        requires on_lists { AreOnLists self.now.returns.now (map (λ own. own.items) on_lists.now) }
         requires land { land < lands_of self.now.returns.now }
         requires party { party < parties_of self.now.returns.now }
         ensures { result ≡ list_cell self.now.book.now.eligible.items self.now.returns.now fact land party }
@@ -150,7 +112,7 @@ impl<'a> Setting<'a> {
                 u64::from(self.returns.counted(land, party))
             }
             Fact::Winners if self.takes_part(party) && self.returns.is_list(land, party) => {
-                winners_at(self.returns, land, party)
+                winners_on(self.returns, on_lists, land, party).len() as u64
             }
             _ => 0,
         }
@@ -160,20 +122,30 @@ impl<'a> Setting<'a> {
     fn land_column(&self, alloc: Global, fact: Fact) -> Result<Vec<u64>, NoMemory>
         ensures { IfOk result (λ cells. cells.items ≡ by_land self.now.returns.now (land_cell self.now.book.now.eligible.items self.now.returns.now fact)) }
     {
-        let mut cells = Vec::new(alloc);
-        for land in 0..self.returns.lands() {
-            cells.push(self.land_cell(fact, land))?;
+        let mut cells = vec![in alloc; 0u64; self.returns.lands()]?;
+        for number in 0..self.returns.wins() {
+            let win = self.returns.win(number);
+            if self.counts(fact, win) {
+                cells[win.land] += 1;
+            }
         }
         Ok(cells)
     }
 
-    // Adds the numbers of a Land's lists.
-    fn push_row(&self, cells: &mut Vec<u64>, fact: Fact, land: usize) -> Result<(), NoMemory>
-        requires { land < lands_of self.now.returns.now }
+    // Adds the numbers of a Land's lists, by the winners of each list.
+    fn push_row(
+        &self,
+        cells: &mut Vec<u64>,
+        on_lists: &[Vec<Numbered>],
+        fact: Fact,
+        land: usize,
+    ) -> Result<(), NoMemory>
+        requires on_lists { AreOnLists self.now.returns.now (map (λ own. own.items) on_lists.now) }
+        requires land { land < lands_of self.now.returns.now }
         ensures { OnOk result (cells.new.items ≡ cells.old.items ++ map (list_cell self.now.book.now.eligible.items self.now.returns.now fact land) (parties self.now.returns.now)) }
     {
         for party in 0..self.returns.parties() {
-            cells.push(self.list_cell(fact, land, party))?;
+            cells.push(self.list_cell(on_lists, fact, land, party))?;
         }
         Ok(())
     }
@@ -182,9 +154,10 @@ impl<'a> Setting<'a> {
     fn list_column(&self, alloc: Global, fact: Fact) -> Result<Vec<u64>, NoMemory>
         ensures { IfOk result (λ cells. cells.items ≡ by_list self.now.returns.now (list_cell self.now.book.now.eligible.items self.now.returns.now fact)) }
     {
+        let on_lists = winners_of_lists(alloc, self.returns)?;
         let mut cells = Vec::new(alloc);
         for land in 0..self.returns.lands() {
-            self.push_row(&mut cells, fact, land)?;
+            self.push_row(&mut cells, on_lists.as_slice(), fact, land)?;
         }
         Ok(cells)
     }

@@ -6,7 +6,8 @@ ghost use Rattle.sl_law_meaning.specs.returns.Election.{parties_of};
 ghost use Rattle.sl_law_meaning.specs.returns.Facts.{is_of, valid_votes, all_valid_votes, meets};
 ghost use Rattle.sl_report_parties.specs.Parts.{part_of, parts_of, IsEnough, IsLeast};
 
-use crate::votes::{Votes, all_votes, party_votes, winners_of};
+use crate::votes::{Votes, all_votes, party_votes};
+use crate::winners::winners_of_parties;
 use sl_base_quotients::NoMemory;
 use sl_stages::{Cond, Returns};
 use std::alloc::Global;
@@ -60,15 +61,22 @@ fn first_met(
     None
 }
 
-/// What a party has, and which of these conditions it meets, of so many valid votes in all.
-pub fn part_of(conditions: &[Cond], returns: &Returns, valid: u64, party: usize) -> PartyPart
+// What a party has, and which of these conditions it meets, with so many winners.
+fn part_with(
+    conditions: &[Cond],
+    returns: &Returns,
+    valid: u64,
+    party: usize,
+    winners: u64,
+) -> PartyPart
     requires party { party < parties_of returns.now }
     requires valid { valid ≡ all_valid_votes returns.now }
+    requires winners { winners ≡ count_by (is_of party) returns.now.wins }
     ensures { result ≡ part_of conditions.now returns.now party }
 {
     let has = PartyPart {
         votes: party_votes(returns, party),
-        winners: winners_of(returns, Some(party)),
+        winners,
         met: None,
     };
     let met = first_met(conditions, has, valid, returns, party);
@@ -84,9 +92,11 @@ pub fn parts_of(
     ensures { IfOk result (λ parts. parts.items ≡ parts_of conditions.now returns.now) }
 {
     let valid = all_votes(returns).valid;
+    let of_parties = winners_of_parties(alloc, returns)?;
     let mut parts = Vec::new(alloc);
     for party in 0..returns.parties() {
-        parts.push(part_of(conditions, returns, valid, party))?;
+        let winners = of_parties[party];
+        parts.push(part_with(conditions, returns, valid, party, winners))?;
     }
     Ok(parts)
 }

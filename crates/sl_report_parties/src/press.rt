@@ -9,7 +9,7 @@ ghost use Rattle.sl_law_meaning.specs.returns.Facts.{parties};
 use crate::earlier::{EarlierParty, seats_before};
 use crate::facts::Setting;
 use crate::parts::PartyPart;
-use crate::seats::{Seats, seats_of};
+use crate::seats::{Seats, seats_by_party};
 use sl_base_quotients::NoMemory;
 use sl_stages::{Returns, Table};
 use std::alloc::Global;
@@ -62,11 +62,12 @@ fn with_seats(
     ensures { IfOk result (λ found. found.items ≡ filter is_pressed
         (map (pressed_of setting.now.book.now.eligible.items table.now setting.now.returns.now (option_map (λ all. all.now) earlier.entry)) (parties setting.now.returns.now))) }
 {
+    let seats = seats_by_party(alloc, table, setting.returns)?;
     let mut found: Vec<Pressed> = Vec::new(alloc);
     for party in 0..setting.returns.parties() {
         let pressed = Pressed {
             party,
-            seats: seats_of(table, setting.returns, party),
+            seats: seats[party],
             part: setting.part(party),
             before: before_of(setting.returns, party, earlier),
         };

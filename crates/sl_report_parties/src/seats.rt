@@ -1,11 +1,15 @@
 //! The seats of parties, as a seat table has them.
 
-ghost use Rattle.std.specs.Prelude.{◌≡◌, ◌+◌, ◌&&◌, if◌then◌else◌};
-ghost use Rattle.sl_report_parties.specs.Sums.{one_if, capped};
-ghost use Rattle.sl_report_parties.specs.Seats.{of_lists, is_single, is_seated, party_seats, all_seats};
+ghost use Rattle.std.specs.Prelude.{◌≡◌, ◌+◌, [], IfOk, map};
+ghost use Rattle.sl_law_meaning.specs.returns.Facts.{parties};
+ghost use Rattle.sl_report_parties.specs.Sums.{capped};
+ghost use Rattle.sl_report_parties.specs.Seats.{party_seats, all_seats};
+ghost use Rattle.sl_report_parties.specs.inner.PartySeats.{AreSeats, IsWith, seats_placed};
 
-use crate::votes::is_of;
+use crate::votes::one_if;
+use sl_base_quotients::NoMemory;
 use sl_stages::{ListSeats, Placed, Returns, Table};
+use std::alloc::Global;
 
 /// Seats: all of them, those of constituency winners, and the vacant ones.
 #[derive(Clone, Copy)]
@@ -32,60 +36,61 @@ impl Seats {
             vacant: self.vacant.saturating_add(vacant),
         }
     }
-
-    // These seats and those of a list, if it counts.
-    fn and_list(self, counts: bool, list: ListSeats) -> Seats
-        ensures seats { result.seats ≡ capped (self.seats + (if counts then list.seats else 0)) }
-        ensures direct { result.direct ≡ capped self.direct }
-        ensures vacant { result.vacant ≡ capped (self.vacant + (if counts then list.vacant else 0)) }
-    {
-        if counts {
-            self.and(list.seats, 0, list.vacant)
-        } else {
-            self.and(0, 0, 0)
-        }
-    }
-
-    // These seats and that of a winner who has that place, if the winner counts.
-    fn and_winner(self, counts: bool, place: Placed) -> Seats
-        ensures seats { result.seats ≡ capped (self.seats + one_if (counts && is_single place)) }
-        ensures direct { result.direct ≡ capped (self.direct + one_if (counts && is_seated place)) }
-        ensures vacant { result.vacant ≡ capped self.vacant }
-    {
-        if !counts {
-            return self.and(0, 0, 0);
-        }
-        match place {
-            Placed::Unseated => self.and(0, 0, 0),
-            Placed::OnList => self.and(0, 1, 0),
-            Placed::Single => self.and(1, 1, 0),
-        }
-    }
 }
 
-// The seats of a party's lists, without the winners on them.
-fn on_lists(table: &Table, party: usize) -> Seats
-    ensures seats { result.seats ≡ capped (of_lists (λ l. l.seats) party table.now.lists) }
-    ensures direct { result.direct ≡ 0 }
-    ensures vacant { result.vacant ≡ capped (of_lists (λ l. l.vacant) party table.now.lists) }
+// The seats of a winner with that place.
+fn seats_placed(place: Placed) -> Seats
+    ensures { result ≡ seats_placed place }
 {
-    let mut seats = NO_SEATS;
-    for list in table.lists() {
-        seats = seats.and_list(list.party == party, *list);
+    Seats {
+        seats: one_if(matches!(place, Placed::Single)),
+        direct: one_if(!matches!(place, Placed::Unseated)),
+        vacant: 0,
     }
-    seats
 }
 
-/// The seats of a party: those of its lists and of its singles, and its winners who are seated.
-pub fn seats_of(table: &Table, returns: &Returns, party: usize) -> Seats
-    ensures { result ≡ party_seats table.now returns.now party }
+// Adds to the seats of a party, if it is one of these.
+fn add_seats(all: &mut Vec<Seats>, party: Option<usize>, more: Seats)
+    ensures { IsWith party more all.old.items all.new.items }
+{
+    if let Some(party) = party {
+        if party < all.len() {
+            all[party] = all[party].and(more.seats, more.direct, more.vacant);
+        }
+    }
+}
+
+// The seats of the lists of each party, without the winners on them.
+fn list_seats(alloc: Global, table: &Table, parties: usize) -> Result<Vec<Seats>, NoMemory>
+    ensures { IfOk result (λ all. AreSeats parties table.now.lists [] all.items) }
+{
+    let mut all = vec![in alloc; NO_SEATS; parties]?;
+    for list in table.lists() {
+        let more = Seats {
+            seats: list.seats,
+            direct: 0,
+            vacant: list.vacant,
+        };
+        add_seats(&mut all, Some(list.party), more);
+    }
+    Ok(all)
+}
+
+/// The seats of each party, in one pass: those of its lists and of its singles, and its winners who are seated.
+pub fn seats_by_party(
+    alloc: Global,
+    table: &Table,
+    returns: &Returns,
+) -> Result<Vec<Seats>, NoMemory>
+    ensures { IfOk result (λ all. all.items ≡ map (party_seats table.now returns.now) (parties returns.now)) }
 {
     let placed = table.placed();
-    let mut seats = on_lists(table, party);
+    let mut all = list_seats(alloc, table, returns.parties())?;
     for number in 0..returns.wins().min(placed.len()) {
-        seats = seats.and_winner(is_of(returns.win(number), Some(party)), placed[number]);
+        let party = returns.win(number).party;
+        add_seats(&mut all, party, seats_placed(placed[number]));
     }
-    seats
+    Ok(all)
 }
 
 /// The seats of all lists and of all singles, and the winners who are seated.
@@ -94,10 +99,11 @@ pub fn seats_in_all(table: &Table) -> Seats
 {
     let mut seats = NO_SEATS;
     for list in table.lists() {
-        seats = seats.and_list(true, *list);
+        seats = seats.and(list.seats, 0, list.vacant);
     }
     for place in table.placed() {
-        seats = seats.and_winner(true, *place);
+        let more = seats_placed(*place);
+        seats = seats.and(more.seats, more.direct, more.vacant);
     }
     seats
 }

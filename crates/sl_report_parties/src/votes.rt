@@ -3,8 +3,8 @@
 ghost use Rattle.std.specs.Prelude.{◌≡◌, ◌<◌, ◌^◌, count_by};
 ghost use Rattle.sl_law_meaning.specs.returns.Election.{lands_of, parties_of};
 ghost use Rattle.sl_law_meaning.specs.returns.Votes.{valid_in, counted_in};
-ghost use Rattle.sl_law_meaning.specs.returns.Facts.{is_in, valid_votes, all_valid_votes};
-ghost use Rattle.sl_report_parties.specs.Sums.{party_sum, land_sum, sum_in_all, is_with, is_alone_in, one_if};
+ghost use Rattle.sl_law_meaning.specs.returns.Facts.{valid_votes, all_valid_votes};
+ghost use Rattle.sl_report_parties.specs.Sums.{party_sum, land_sum, sum_in_all, is_with, one_if};
 
 use sl_stages::{Returns, Win};
 
@@ -70,7 +70,7 @@ pub fn all_votes(returns: &Returns) -> Votes
 }
 
 // Whether a winner is of that party, or is without one.
-pub(crate) fn is_of(win: Win, party: Option<usize>) -> bool
+fn is_of(win: Win, party: Option<usize>) -> bool
     ensures { result ≡ is_with party win }
 {
     match (win.party, party) {
@@ -87,35 +87,6 @@ pub fn winners_of(returns: &Returns, party: Option<usize>) -> u64
     let mut winners = 0u64;
     for number in 0..returns.wins() {
         winners += one_if(is_of(returns.win(number), party));
-    }
-    winners
-}
-
-/// How many winners there are in a Land.
-pub fn winners_in(returns: &Returns, land: usize) -> u64
-    ensures { result ≡ count_by (is_in land) returns.now.wins }
-{
-    let mut winners = 0u64;
-    for number in 0..returns.wins() {
-        winners += one_if(returns.win(number).land == land);
-    }
-    winners
-}
-
-// Whether a winner without a party is of that Land.
-fn is_alone(win: Win, land: usize) -> bool
-    ensures { result ≡ is_alone_in land win }
-{
-    win.land == land && win.party.is_none()
-}
-
-/// How many winners without a party there are in a Land.
-pub fn independents_in(returns: &Returns, land: usize) -> u64
-    ensures { result ≡ count_by (is_alone_in land) returns.now.wins }
-{
-    let mut winners = 0u64;
-    for number in 0..returns.wins() {
-        winners += one_if(is_alone(returns.win(number), land));
     }
     winners
 }

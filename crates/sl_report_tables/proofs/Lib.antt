@@ -1,5 +1,6 @@
 pub mod MoreRows
 pub mod LocalSeats
+pub mod SeatedBooks
 pub mod MoreTables
 pub mod ComparedRows
 pub mod Divisors

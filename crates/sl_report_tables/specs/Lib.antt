@@ -4,6 +4,7 @@ pub mod Parts
 pub mod Parties
 pub mod Scopes
 pub mod Stages
+pub mod Steps
 pub mod Faults
 pub mod Totals
 pub mod Words

@@ -65,17 +65,17 @@ list_row e l =
     ++ a_number (valid_in (list_at e l.land l.party)) ∷ a_number (counted_in (list_at e l.land l.party))
     ∷ a_number l.seats ∷ a_number l.direct ∷ a_number l.vacant ∷ []
 
--- a list of the election that has votes or seats
-abbrev pub is_shown_list : Election → ListSeats → Bool
-is_shown_list e l =
-    (nat_lt l.land (lands_of e) && nat_lt l.party (parties_of e)) && (nat_lt 0 (valid_in (list_at e l.land l.party)) || nat_lt 0 l.seats)
+-- a list of the election: any of them, or one that has votes or seats
+abbrev pub is_shown_list : (any : Bool) → Election → ListSeats → Bool
+is_shown_list any e l =
+    (nat_lt l.land (lands_of e) && nat_lt l.party (parties_of e)) && (any || (nat_lt 0 (valid_in (list_at e l.land l.party)) || nat_lt 0 l.seats))
 
-abbrev pub lists_table : Election → SeatTable → Table
-lists_table e t = record {
+abbrev pub lists_table : (any : Bool) → Election → SeatTable → Table
+lists_table any e t = record {
   key = codes "lists";
   columns = codes "land" ∷ codes "land_name" ∷ codes "party" ∷ codes "party_name" ∷ codes "valid" ∷ codes "counted" ∷ codes "seats"
       ∷ codes "direct" ∷ codes "vacant" ∷ [];
-  rows = map (list_row e) (filter (is_shown_list e) t.lists);
+  rows = map (list_row e) (filter (is_shown_list any e) t.lists);
 }
 
 -- ---- winners

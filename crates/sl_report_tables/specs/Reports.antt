@@ -1,7 +1,9 @@
 -- Which tables each command shows (docs/report.md).
 use Rattle.std.specs.Borrow.{Bor}
 use Rattle.std.specs.List.{AllZip, range_with_len}
-use Rattle.std.specs.Prelude.{◌≡◌, ℕ, List, [], ◌∷◌, ◌++◌, Option, None, Some, filter, flat_map, get_or, length, option_map}
+use Rattle.std.specs.Prelude.{◌≡◌, false, true, ℕ, List, [], ◌∷◌, ◌++◌, Option, None, Some, filter, flat_map, get_or, length, option_map}
+use Rattle.sl_count_texts.specs.Bounds.{AreBoundsOf}
+use Rattle.sl_count_texts.specs.declared.bounds.ScopeBounds.{ScopeBounds}
 use Rattle.sl_report_forms.specs.Tables.{Table}
 use Rattle.sl_report_results.specs.StageScopes.{AreStageScopes}
 use Rattle.sl_report_parties.specs.Press.{ArePressed}
@@ -14,6 +16,7 @@ use Rattle.sl_report_tables.specs.Parties.{AreCovered, covering_table, house_of,
 use Rattle.sl_report_tables.specs.Press.{IsLackingTable, is_whole, press_table}
 use Rattle.sl_report_tables.specs.Scopes.{scope_tables, scopes_table}
 use Rattle.sl_report_tables.specs.Stages.{stage_tables}
+use Rattle.sl_report_tables.specs.Steps.{bounds_table, steps_table}
 use Rattle.sl_report_tables.specs.declared.counts.Show.TheVariants as show
 use Rattle.sl_report_tables.specs.declared.counts.Show.{Show}
 use Rattle.sl_law_meaning.specs.book.Books.{book_of}
@@ -27,9 +30,13 @@ use Rattle.sl_law_meaning.specs.declared.fault.LegalFault.{LegalFault}
 use Rattle.sl_law_meaning.specs.meaning.Tables.{SeatTable}
 use Rattle.sl_law_meaning.specs.returns.Election.{Election}
 
--- contested lists, and the winners who sit by themselves or not at all
+-- the winners who sit by themselves, and those who are not seated
+abbrev pub place_tables : Election → SeatTable → List Table
+place_tables e t = singles_table e t ∷ open_table e t ∷ []
+
+-- the same behind contested lists
 abbrev pub winner_tables : Election → SeatTable → List Ranked → List Table
-winner_tables e t ranked = covering_table ranked ∷ singles_table e t ∷ open_table e t ∷ []
+winner_tables e t ranked = covering_table ranked ∷ place_tables e t
 
 module _ (b : Book) (e : Election) where
   -- ---- report
@@ -48,13 +55,21 @@ module _ (b : Book) (e : Election) where
   abbrev pub first_tables : Option SeatTable → List Table
   first_tables t = law_table (house_of b e) t ∷ parties_table b.eligible.items e t ∷ []
 
+  -- a seat table: the law, the parties, all lists, and the winners on no list
+  abbrev pub seat_tables : SeatTable → List Table
+  seat_tables t = first_tables (Some t) ++ lists_table true e t ∷ place_tables e t
+
+  -- all seat steps, the bounds of the scopes, and the seat table
+  abbrev pub ShowsSteps : SeatTable → List Table → Type 0
+  ShowsSteps t tables = (found : List ScopeBounds) × AreBoundsOf t found × (tables ≡ steps_table t ∷ bounds_table found ∷ seat_tables t)
+
   -- the lists, the scopes of all stages with their entries, and those of winners, after other tables
   pub record AddsCounted (c : Counted) (before after : List Table) : Type 0 where
     pub scopes : List Scoped
     pub all : AreAllScopes c scopes
     pub ranked : List Ranked
     pub covered : AreCovered b.last.seating b.eligible.items c.table e ranked
-    pub added : after ≡ before ++ ((lists_table e c.table ∷ scope_tables scopes) ++ winner_tables e c.table ranked)
+    pub added : after ≡ before ++ ((lists_table false e c.table ∷ scope_tables scopes) ++ winner_tables e c.table ranked)
 
   abbrev pub IsCountReport : Counted → List Table → Type 0
   IsCountReport c tables = AddsCounted c (first_tables (Some c.table)) tables
@@ -80,15 +95,14 @@ module _ (b : Book) (e : Election) where
   -- ---- what a command shows of how a count ends
 
   abbrev pub Shows : Show → End → List Table → Type 0
+  Shows show.Seats (end.Counted c) tables = tables ≡ seat_tables c.table
+  Shows show.Steps (end.Counted c) tables = ShowsSteps c.table tables
   Shows show.Report (end.Counted c) tables = IsCountReport c tables
   Shows (show.Short earlier) (end.Counted c) tables = IsPressReport (option_map (λ all. all.now) earlier) c tables
   Shows show.Stages (end.Counted c) tables = tables ≡ stage_tables e c.columns.items
-  Shows show.Report (end.Fault f) tables = IsFaultReport f tables
-  Shows (show.Short earlier) (end.Fault f) tables = IsFaultReport f tables
-  Shows show.Stages (end.Fault f) tables = IsFaultReport f tables
+  Shows shown (end.Fault f) tables = IsFaultReport f tables
 
 -- what shows the same beside an earlier seat table, where a page for the press does
 abbrev pub beside : Option (Bor (List EarlierParty)) → Show → Show
-beside _ show.Report = show.Report
 beside earlier (show.Short _) = show.Short earlier
-beside _ show.Stages = show.Stages
+beside _ shown = shown

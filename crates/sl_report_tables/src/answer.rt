@@ -1,7 +1,7 @@
 //! What a command that reports answers: sheets with a status, and their text in one of the forms.
 
 ghost use Rattle.std.specs.Prelude.{◌≡◌, [], IfOk};
-ghost use Rattle.sl_report_tables.specs.Answers.{IsRefusal, IsRefusedBy};
+ghost use Rattle.sl_report_tables.specs.Answers.{IsAnswerText, IsRefusal, IsRefusedBy};
 
 use sl_base_quotients::NoMemory;
 use sl_count_inputs::Status;
@@ -134,13 +134,15 @@ impl Answer {
         alloc: Global,
         shape: Shape,
         heading: &Heading<'_>,
-    ) -> Result<Vec<u8>, NoMemory> {
+    ) -> Result<Vec<u8>, NoMemory>
+        ensures { IfOk result (λ text. IsAnswerText shape self.now text.items) }
+    {
         match (shape, self.status) {
             (Shape::Json, _) => self.json(alloc, heading),
             (Shape::Text | Shape::Markdown | Shape::Html | Shape::Comma, Status::Refused) => Ok(
                 Vec::from_slice(alloc, self.line.as_slice())?,
             ),
-            (Shape::Comma, _) => Ok(comma_text(alloc, self.sheets.as_slice())?.into_bytes()),
+            (Shape::Comma, _) => comma_text(alloc, self.sheets.as_slice()),
             (Shape::Text, _) => self.aligned(alloc),
             (Shape::Markdown, _) => self.markdown(alloc),
             (Shape::Html, _) => self.html(alloc, heading),

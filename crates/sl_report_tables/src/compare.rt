@@ -1,21 +1,24 @@
 //! The sheets of several rulebooks, side by side.
 
-ghost use Rattle.std.specs.Prelude.{◌≡◌, ◌++◌, ◌∷◌, [], IfOk, OnOk, flat_map, map, string_bytes};
+ghost use Rattle.std.specs.Prelude.{◌≡◌, ◌<◌, ◌++◌, ◌∷◌, [], All, IfOk, IfSome, OnOk, flat_map, map, string_bytes};
 ghost use Rattle.sl_report_forms.specs.Cells.{Content};
 ghost use Rattle.sl_report_forms.specs.Tables.{contents_of, table_of, with_columns, with_rows};
-ghost use Rattle.sl_report_tables.specs.Compare.{AreComparison, IsBooksTable, book_cells, book_row, compare_table, compared, compared_cell, compared_name, compared_row, fault_cell, seats_in};
+ghost use Rattle.sl_report_tables.specs.Compare.{AreComparison, IsBooksTable, book_cells, book_row, compare_table, compared, compared_cell, compared_name, compared_row, fault_cell};
 ghost use Rattle.sl_report_tables.specs.Parts.{cells_of};
+ghost use Rattle.sl_report_tables.specs.inner.Seated.{AreSeated, IsSeated, books_of};
+ghost use Rattle.sl_law_meaning.specs.returns.Election.{parties_of};
 
 use crate::changes::{changes_sheet, each_sheet};
 use crate::faults::kind_word;
 use crate::lists_compared::list_seats_sheet;
 use crate::naming::{Naming, law_name, stage_name};
 use crate::rows::{Form, Part, add_sheet, push_row, put_parts, titled};
+use crate::seated::{Seated, seated_books, seats_in};
 use crate::stages::stage_number;
 use crate::texts::{ALL, COMPARED_TITLE, ColumnHead, RULEBOOKS_TITLE};
 use sl_base_quotients::NoMemory;
 use sl_report_forms::{Head, Look, Row, Sheet};
-use sl_report_parties::{house_of, open_winners, seats_in_all, seats_of};
+use sl_report_parties::{house_of, open_winners, seats_in_all};
 use sl_report_results::{Column, Counted};
 use sl_stages::{Book, CheckedBook, LegalFault, Returns};
 use std::alloc::Global;
@@ -156,23 +159,15 @@ fn books_sheet(alloc: Global, naming: &Naming<'_>, books: &[Judged]) -> Result<S
     Ok(sheet)
 }
 
-/// The seats by a count: all of them, or those of a party.
-pub(crate) fn seats_in(counted: &Counted, returns: &Returns, party: Option<usize>) -> u64
-    ensures { result ≡ seats_in returns.now party counted.now }
-{
-    match party {
-        Some(party) => seats_of(&counted.table, returns, party).seats,
-        None => seats_in_all(&counted.table).seats,
-    }
-}
-
 // The seats that a book gives a party, or all where no party is given; else the kind of its fault.
-fn seats_part(judged: &Judged, returns: &Returns, party: Option<usize>) -> Part<'static>
-    ensures { cells_of result ≡ compared_cell returns.now party judged.now ∷ [] }
+fn seats_part(book: &Seated<'_>, returns: &Returns, party: Option<usize>) -> Part<'static>
+    requires book { IsSeated returns.now book.now }
+    requires party { IfSome party (λ n. n < parties_of returns.now) }
+    ensures { cells_of result ≡ compared_cell returns.now party book.now.judged.now ∷ [] }
 {
-    match &judged.counted {
-        Some(counted) => Part::Number(seats_in(counted, returns, party)),
-        None => fault_part(judged),
+    match seats_in(book, returns, party) {
+        Some(seats) => Part::Number(seats),
+        None => fault_part(book.judged),
     }
 }
 
@@ -191,13 +186,15 @@ fn put_compared(
     alloc: Global,
     row: &mut Row,
     naming: &Naming<'_>,
-    books: &[Judged],
+    books: &[Seated<'_>],
     party: Option<usize>,
 ) -> Result<(), NoMemory>
-    ensures { OnOk result (contents_of row.new.cells.items ≡ contents_of row.old.cells.items ++ map (compared_cell naming.now.returns.now party) books.now) }
+    requires books { All (IsSeated naming.now.returns.now) books.now }
+    requires party { IfSome party (λ n. n < parties_of naming.now.returns.now) }
+    ensures { OnOk result (contents_of row.new.cells.items ≡ contents_of row.old.cells.items ++ map (compared_cell naming.now.returns.now party) (books_of books.now)) }
 {
-    for judged in books {
-        let seats = seats_part(judged, naming.returns, party);
+    for book in books {
+        let seats = seats_part(book, naming.returns, party);
         put_parts(alloc, row, naming, &[seats])?;
     }
     Ok(())
@@ -208,10 +205,12 @@ fn push_compared(
     alloc: Global,
     sheet: &mut Sheet,
     naming: &Naming<'_>,
-    books: &[Judged],
+    books: &[Seated<'_>],
     party: Option<usize>,
 ) -> Result<(), NoMemory>
-    ensures { OnOk result (table_of sheet.new ≡ with_rows (table_of sheet.old) (compared_row naming.now.returns.now books.now party ∷ [])) }
+    requires books { All (IsSeated naming.now.returns.now) books.now }
+    requires party { IfSome party (λ n. n < parties_of naming.now.returns.now) }
+    ensures { OnOk result (table_of sheet.new ≡ with_rows (table_of sheet.old) (compared_row naming.now.returns.now (books_of books.now) party ∷ [])) }
 {
     let mut row = Row::new(alloc);
     put_parts(alloc, &mut row, naming, &[name_part(party)])?;
@@ -236,23 +235,31 @@ fn fill_seats(
     sheet: &mut Sheet,
     naming: &Naming<'_>,
     books: &[Judged],
+    seated: &[Seated<'_>],
 ) -> Result<(), NoMemory>
+    requires { AreSeated naming.now.returns.now books.now seated.now }
     ensures { OnOk result (table_of sheet.new ≡ with_rows (with_columns (table_of sheet.old) (map (λ j. string_bytes j.word) books.now)) (map (compared_row naming.now.returns.now books.now) (compared naming.now.returns.now))) }
 {
     push_heads(alloc, sheet, books)?;
-    push_compared(alloc, sheet, naming, books, None)?;
+    push_compared(alloc, sheet, naming, seated, None)?;
     for party in 0..naming.returns.parties() {
-        push_compared(alloc, sheet, naming, books, Some(party))?;
+        push_compared(alloc, sheet, naming, seated, Some(party))?;
     }
     Ok(())
 }
 
 // The parties in rows, with a column for each book.
-fn seats_sheet(alloc: Global, naming: &Naming<'_>, books: &[Judged]) -> Result<Sheet, NoMemory>
+fn seats_sheet(
+    alloc: Global,
+    naming: &Naming<'_>,
+    books: &[Judged],
+    seated: &[Seated<'_>],
+) -> Result<Sheet, NoMemory>
+    requires { AreSeated naming.now.returns.now books.now seated.now }
     ensures { IfOk result (λ s. table_of s ≡ compare_table naming.now.returns.now books.now) }
 {
     let mut sheet = titled(alloc, naming, "compare", COMPARED_TITLE, &COMPARE)?;
-    fill_seats(alloc, &mut sheet, naming, books).and(Ok(sheet))
+    fill_seats(alloc, &mut sheet, naming, books, seated).and(Ok(sheet))
 }
 
 /// The sheets of several books on the returns: a line for each book, the parties in rows with a column for each book, how they differ from the first
@@ -264,11 +271,13 @@ pub(crate) fn compare_sheets(
 ) -> Result<Vec<Sheet>, NoMemory>
     ensures { IfOk result (λ sheets. AreComparison naming.now.returns.now books.now (map table_of sheets.items)) }
 {
+    let seated = seated_books(alloc, books, naming.returns)?;
+    let seated = seated.as_slice();
     let mut sheets: Vec<Sheet> = Vec::new(alloc);
     add_sheet(&mut sheets, books_sheet(alloc, naming, books))?;
-    add_sheet(&mut sheets, seats_sheet(alloc, naming, books))?;
-    add_sheet(&mut sheets, changes_sheet(alloc, naming, books))?;
+    add_sheet(&mut sheets, seats_sheet(alloc, naming, books, seated))?;
+    add_sheet(&mut sheets, changes_sheet(alloc, naming, books, seated))?;
     add_sheet(&mut sheets, list_seats_sheet(alloc, naming, books))?;
-    add_sheet(&mut sheets, each_sheet(alloc, naming, books))?;
+    add_sheet(&mut sheets, each_sheet(alloc, naming, books, seated))?;
     Ok(sheets)
 }

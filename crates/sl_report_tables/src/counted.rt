@@ -5,7 +5,7 @@ ghost use Rattle.sl_report_forms.specs.Tables.{table_of};
 ghost use Rattle.sl_report_parties.specs.Seats.{all_seats};
 ghost use Rattle.sl_report_parties.specs.declared.contests.Ranked.{Ranked};
 ghost use Rattle.sl_report_tables.specs.Parties.{AreCovered, house_of, law_table};
-ghost use Rattle.sl_report_tables.specs.Reports.{AddsCounted, AreAllScopes, IsCountReport, first_tables, winner_tables};
+ghost use Rattle.sl_report_tables.specs.Reports.{AddsCounted, AreAllScopes, IsCountReport, first_tables, place_tables, winner_tables};
 ghost use Rattle.sl_report_tables.specs.Scopes.{scope_tables};
 ghost use Rattle.sl_law_meaning.specs.book.Books.{book_of};
 ghost use Rattle.sl_law_meaning.specs.meaning.Counts.{HoldsStages};
@@ -20,7 +20,7 @@ use sl_base_quotients::NoMemory;
 use sl_report_forms::{Look, Sheet};
 use sl_report_parties::{Seats, Setting, seats_in_all};
 use sl_report_results::{Counted, Scoped, stage_scopes};
-use sl_stages::{Book, Table};
+use sl_stages::{Book, Returns, Table};
 use std::alloc::Global;
 
 const LAW: [Form; 5] = [
@@ -95,6 +95,21 @@ fn push_scope_sheets(
     Ok(())
 }
 
+/// Adds the sheets of the winners who sit by themselves, and of those who are not seated.
+pub(crate) fn push_places(
+    alloc: Global,
+    sheets: &mut Vec<Sheet>,
+    returns: &Returns,
+    naming: &Naming<'_>,
+    table: &Table,
+) -> Result<(), NoMemory>
+    ensures { OnOk result (map table_of sheets.new.items ≡ map table_of sheets.old.items ++ place_tables returns.now table.now) }
+{
+    add_sheet(sheets, singles_sheet(alloc, returns, naming, table))?;
+    add_sheet(sheets, open_sheet(alloc, returns, naming, table))?;
+    Ok(())
+}
+
 // Adds the sheets of contested lists, and of the winners who sit by themselves or not at all.
 fn push_winner_sheets(
     alloc: Global,
@@ -108,8 +123,7 @@ fn push_winner_sheets(
         × (map table_of sheets.new.items ≡ map table_of sheets.old.items ++ winner_tables setting.now.returns.now table.now ranked)) }
 {
     add_sheet(sheets, covering_sheet(alloc, setting, naming, table))?;
-    add_sheet(sheets, singles_sheet(alloc, setting.returns, naming, table))?;
-    add_sheet(sheets, open_sheet(alloc, setting.returns, naming, table))?;
+    push_places(alloc, sheets, setting.returns, naming, table)?;
     Ok(())
 }
 
@@ -125,7 +139,10 @@ fn push_counted(
     ensures { OnOk result (AddsCounted setting.now.book.now setting.now.returns.now counted.now (map table_of sheets.old.items) (map table_of sheets.new.items)) }
 {
     let table = &counted.table;
-    add_sheet(sheets, lists_sheet(alloc, setting.returns, naming, table))?;
+    add_sheet(
+        sheets,
+        lists_sheet(alloc, setting.returns, naming, table, false),
+    )?;
     let scopes = all_scopes(alloc, setting, counted)?;
     push_scope_sheets(alloc, sheets, setting.book, naming, scopes.as_slice())?;
     push_winner_sheets(alloc, sheets, setting, naming, table)?;

@@ -1,4 +1,4 @@
-//! The answers that show one count: those of `report` and of `stages`.
+//! The answers that show one count: those of `report` and of `stages`, and of `count` and `steps` as tables.
 
 ghost use Rattle.std.specs.Prelude.{◌≡◌, IfOk, map};
 ghost use Rattle.sl_report_forms.specs.Tables.{table_of};
@@ -13,6 +13,7 @@ use crate::full_names::FullNames;
 use crate::naming::Naming;
 use crate::press::press_sheets;
 use crate::stages::stage_sheets;
+use crate::steps::{seat_sheets, step_sheets};
 use sl_base_quotients::NoMemory;
 use sl_count_inputs::Status;
 use sl_explain_texts::Language;
@@ -24,6 +25,10 @@ use std::alloc::Global;
 /// What a command shows of a count.
 #[derive(Clone, Copy)]
 pub enum Show<'a> {
+    /// Its seat table, as `count` does.
+    Seats,
+    /// All seat steps with the bounds of scopes, and its seat table, as `steps` does.
+    Steps,
     /// All of it, as `report` does.
     Report,
     /// What the press needs of it, as `report --short` does, beside the parties of an earlier seat table, where one is given.
@@ -38,18 +43,11 @@ impl Show<'_> {
         ensures { result ≡ beside earlier.entry self.entry }
     {
         match self {
+            Show::Seats => Show::Seats,
+            Show::Steps => Show::Steps,
             Show::Report => Show::Report,
             Show::Short(_) => Show::Short(earlier),
             Show::Stages => Show::Stages,
-        }
-    }
-
-    /// The command.
-    pub fn command(self) -> &'static str {
-        match self {
-            Show::Report => "report",
-            Show::Short(_) => "report --short",
-            Show::Stages => "stages",
         }
     }
 }
@@ -82,6 +80,12 @@ fn sheets_of(
     ensures { IfOk result (λ sheets. Shows setting.now.book.now setting.now.returns.now show.entry end.now (map table_of sheets.items)) }
 {
     match (show, end) {
+        (Show::Seats, End::Counted(counted)) => {
+            seat_sheets(alloc, setting, naming, &counted.table)
+        }
+        (Show::Steps, End::Counted(counted)) => {
+            step_sheets(alloc, setting, naming, &counted.table)
+        }
         (Show::Report, End::Counted(counted)) => report_sheets(alloc, setting, naming, counted),
         (Show::Short(earlier), End::Counted(counted)) => {
             press_sheets(alloc, setting, naming, counted, earlier)

@@ -5,6 +5,7 @@ ghost use Rattle.sl_report_forms.specs.Tables.{table_of, with_rows};
 ghost use Rattle.sl_report_parties.specs.Seats.{party_seats};
 ghost use Rattle.sl_report_tables.specs.Parties.{has_place, is_shown_list, list_row, lists_table, open_table, parties_table, party_cells, party_row, placed_table, seat_cells, singles_table, winner_row};
 ghost use Rattle.sl_report_tables.specs.Parts.{cells_of};
+ghost use Rattle.sl_report_tables.specs.inner.SeatsBy.{seats_by};
 ghost use Rattle.sl_law_meaning.specs.returns.Election.{parties_of};
 ghost use Rattle.sl_law_meaning.specs.returns.Facts.{all_valid_votes};
 
@@ -14,7 +15,7 @@ use crate::texts::{ColumnHead, LISTS_TITLE, NO_PARTY, OPEN_TITLE, PARTIES_TITLE,
 use sl_base_quotients::NoMemory;
 use sl_explain_texts::Message;
 use sl_report_forms::{Look, Sheet};
-use sl_report_parties::{Seats, Setting, all_votes, seats_of};
+use sl_report_parties::{Seats, Setting, all_votes, seats_by_party};
 use sl_stages::{ListSeats, Placed, Returns, Table, Win};
 use std::alloc::Global;
 
@@ -70,14 +71,28 @@ pub(crate) fn seat_parts(seats: Option<Seats>) -> [Part<'static>; 3]
     }
 }
 
-// The seats of a party, where a table is known.
-fn party_seats(table: Option<&Table>, returns: &Returns, party: usize) -> Option<Seats>
-    ensures { result ≡ option_map (λ t. party_seats t.now returns.now party) table.entry }
+// The seats of each party, where a table is known.
+fn seats_by(alloc: Global, table: Option<&Table>, returns: &Returns) -> Result<Vec<Seats>, NoMemory>
+    ensures { IfOk result (λ seats. seats.items ≡ seats_by returns.now (option_map (λ t. t.now) table.entry)) }
 {
     match table {
-        Some(table) => Some(seats_of(table, returns, party)),
-        None => None,
+        Some(table) => seats_by_party(alloc, table, returns),
+        None => Ok(Vec::new(alloc)),
     }
+}
+
+// The seats of a party, where a table is known, by those of each.
+fn party_seats(
+    table: Option<&Table>,
+    returns: &Returns,
+    seats: &[Seats],
+    party: usize,
+) -> Option<Seats>
+    requires seats { seats.now ≡ seats_by returns.now (option_map (λ t. t.now) table) }
+    requires party { party < parties_of returns.now }
+    ensures { result ≡ option_map (λ t. party_seats t.now returns.now party) table.entry }
+{
+    seats.get(party).copied()
 }
 
 // Adds the row of a party, of so many valid votes in all.
@@ -87,16 +102,19 @@ fn push_party(
     setting: &Setting<'_>,
     naming: &Naming<'_>,
     table: Option<&Table>,
+    seats: &[Seats],
     valid: u64,
     party: usize,
 ) -> Result<(), NoMemory>
+    requires seats { seats.now ≡ seats_by setting.now.returns.now (option_map (λ t. t.now) table) }
     requires party { party < parties_of setting.now.returns.now }
     requires valid { valid ≡ all_valid_votes setting.now.returns.now }
     ensures { OnOk result (table_of sheet.new ≡ with_rows (table_of sheet.old)
         (party_row setting.now.book.now.eligible.items setting.now.returns.now (option_map (λ t. t.now) table.entry) party ∷ [])) }
 {
     let part = setting.part(party);
-    let [seats, direct, vacant] = seat_parts(party_seats(table, setting.returns, party));
+    let seats = party_seats(table, setting.returns, seats, party);
+    let [seats, direct, vacant] = seat_parts(seats);
     let parts = [
         Part::Party(party),
         Part::Number(part.votes.valid),
@@ -121,27 +139,32 @@ pub(crate) fn parties_sheet(
 {
     let mut sheet = titled(alloc, naming, "parties", PARTIES_TITLE, &PARTIES)?;
     let valid = all_votes(setting.returns).valid;
+    let seats = seats_by(alloc, table, setting.returns)?;
+    let seats = seats.as_slice();
     for party in 0..setting.returns.parties() {
-        push_party(alloc, &mut sheet, setting, naming, table, valid, party)?;
+        push_party(
+            alloc, &mut sheet, setting, naming, table, seats, valid, party,
+        )?;
     }
     Ok(sheet)
 }
 
-// Adds the row of a list of the returns, if it has votes or seats.
+// Adds the row of a list of the returns: of any, or if it has votes or seats.
 fn push_list(
     alloc: Global,
     sheet: &mut Sheet,
     returns: &Returns,
     naming: &Naming<'_>,
     list: ListSeats,
+    any: bool,
 ) -> Result<(), NoMemory>
-    ensures { OnOk result (table_of sheet.new ≡ with_rows (table_of sheet.old) (if is_shown_list returns.now list then list_row returns.now list ∷ [] else [])) }
+    ensures { OnOk result (table_of sheet.new ≡ with_rows (table_of sheet.old) (if is_shown_list any returns.now list then list_row returns.now list ∷ [] else [])) }
 {
     if list.land >= returns.lands() || list.party >= returns.parties() {
         return Ok(());
     }
     let valid = returns.valid(list.land, list.party);
-    if valid == 0 && list.seats == 0 {
+    if !any && valid == 0 && list.seats == 0 {
         return Ok(());
     }
     let parts = [
@@ -156,18 +179,19 @@ fn push_list(
     push_row(alloc, sheet, naming, &parts)
 }
 
-/// The lists that have votes or seats.
+/// The lists: all of them, or those that have votes or seats.
 pub(crate) fn lists_sheet(
     alloc: Global,
     returns: &Returns,
     naming: &Naming<'_>,
     table: &Table,
+    any: bool,
 ) -> Result<Sheet, NoMemory>
-    ensures { IfOk result (λ s. table_of s ≡ lists_table returns.now table.now) }
+    ensures { IfOk result (λ s. table_of s ≡ lists_table any returns.now table.now) }
 {
     let mut sheet = titled(alloc, naming, "lists", LISTS_TITLE, &LISTS)?;
     for list in table.lists() {
-        push_list(alloc, &mut sheet, returns, naming, *list)?;
+        push_list(alloc, &mut sheet, returns, naming, *list, any)?;
     }
     Ok(sheet)
 }

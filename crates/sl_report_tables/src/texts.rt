@@ -74,6 +74,16 @@ pub(crate) const DISTRIBUTIONS_TITLE: Message = Message {
     german: "Verteilungen",
 };
 
+pub(crate) const STEPS_TITLE: Message = Message {
+    english: "Steps of the seats",
+    german: "Schritte der Sitze",
+};
+
+pub(crate) const BOUNDS_TITLE: Message = Message {
+    english: "Bounds of the divisors",
+    german: "Schranken der Divisoren",
+};
+
 pub(crate) const STAGES_TITLE: Message = Message {
     english: "Stages",
     german: "Stufen",

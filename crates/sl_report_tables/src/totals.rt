@@ -15,8 +15,8 @@ use crate::warnings::warnings_sheet;
 use sl_base_quotients::NoMemory;
 use sl_report_forms::{Look, Sheet};
 use sl_report_parties::{
-    all_lists, all_people, all_votes, independents_in, lacking_votes, lacking_winners, land_votes,
-    lists_of, part_of, winners_at, winners_in, winners_of,
+    PartyPart, WinnerCounts, all_lists, all_people, all_votes, lacking_votes, lacking_winners,
+    land_votes, lists_of, parts_of, winners_of,
 };
 use sl_stages::{Book, Cond};
 use std::alloc::Global;
@@ -83,20 +83,21 @@ fn totals_sheet(alloc: Global, naming: &Naming<'_>) -> Result<Sheet, NoMemory>
     one_row_sheet(alloc, naming, "totals", TOTALS_TITLE, &TOTALS, &parts)
 }
 
-// Adds the row of a party, of so many valid votes in all.
+// Adds the row of a party that has so much, of so many valid votes in all.
 fn push_party(
     alloc: Global,
     sheet: &mut Sheet,
     conditions: &[Cond],
     naming: &Naming<'_>,
     party: usize,
+    part: PartyPart,
     valid: u64,
 ) -> Result<(), NoMemory>
     requires party { party < parties_of naming.now.returns.now }
+    requires part { part ≡ part_of conditions.now naming.now.returns.now party }
     requires valid { valid ≡ all_valid_votes naming.now.returns.now }
     ensures { OnOk result ((row : List Content) × IsVotesRow conditions.now naming.now.returns.now party row × (table_of sheet.new ≡ with_rows (table_of sheet.old) (row ∷ []))) }
 {
-    let part = part_of(conditions, naming.returns, valid, party);
     let parts = [
         Part::Party(party),
         Part::Number(part.votes.valid),
@@ -118,8 +119,10 @@ fn votes_sheet(alloc: Global, conditions: &[Cond], naming: &Naming<'_>) -> Resul
 {
     let mut sheet = titled(alloc, naming, "votes", PARTIES_TITLE, &VOTES)?;
     let valid = all_votes(naming.returns).valid;
+    let parts = parts_of(alloc, conditions, naming.returns)?;
     for party in 0..naming.returns.parties() {
-        push_party(alloc, &mut sheet, conditions, naming, party, valid)?;
+        let part = parts[party];
+        push_party(alloc, &mut sheet, conditions, naming, party, part, valid)?;
     }
     Ok(sheet)
 }
@@ -129,9 +132,11 @@ fn push_land(
     alloc: Global,
     sheet: &mut Sheet,
     naming: &Naming<'_>,
+    counts: &WinnerCounts<'_>,
     land: usize,
 ) -> Result<(), NoMemory>
-    requires { land < lands_of naming.now.returns.now }
+    requires counts { counts.now.returns.now ≡ naming.now.returns.now }
+    requires land { land < lands_of naming.now.returns.now }
     ensures { OnOk result (table_of sheet.new ≡ with_rows (table_of sheet.old) (land_row naming.now.returns.now land ∷ [])) }
 {
     let votes = land_votes(naming.returns, land);
@@ -140,19 +145,24 @@ fn push_land(
         Part::Number(u64::from(naming.returns.population(land))),
         Part::Number(votes.valid),
         Part::Number(votes.counted),
-        Part::Number(winners_in(naming.returns, land)),
-        Part::Number(independents_in(naming.returns, land)),
+        Part::Number(counts.in_land(land)),
+        Part::Number(counts.independents(land)),
     ];
     push_row(alloc, sheet, naming, &parts)
 }
 
 // The people, the votes and the winners of the Länder.
-fn lands_sheet(alloc: Global, naming: &Naming<'_>) -> Result<Sheet, NoMemory>
+fn lands_sheet(
+    alloc: Global,
+    naming: &Naming<'_>,
+    counts: &WinnerCounts<'_>,
+) -> Result<Sheet, NoMemory>
+    requires { counts.now.returns.now ≡ naming.now.returns.now }
     ensures { IfOk result (λ s. table_of s ≡ lands_table naming.now.returns.now) }
 {
     let mut sheet = titled(alloc, naming, "lands", LANDS_TITLE, &LANDS)?;
     for land in 0..naming.returns.lands() {
-        push_land(alloc, &mut sheet, naming, land)?;
+        push_land(alloc, &mut sheet, naming, counts, land)?;
     }
     Ok(sheet)
 }
@@ -162,12 +172,15 @@ fn push_won(
     alloc: Global,
     sheet: &mut Sheet,
     naming: &Naming<'_>,
+    counts: &WinnerCounts<'_>,
     land: usize,
     party: usize,
 ) -> Result<(), NoMemory>
+    requires counts { counts.now.returns.now ≡ naming.now.returns.now }
+    requires party { party < parties_of naming.now.returns.now }
     ensures { OnOk result (table_of sheet.new ≡ with_rows (table_of sheet.old) (if nat_lt 0 (won_at naming.now.returns.now land party) then won_row naming.now.returns.now land party ∷ [] else [])) }
 {
-    let winners = winners_at(naming.returns, land, party);
+    let winners = counts.at(land, party);
     if winners == 0 {
         return Ok(());
     }
@@ -180,23 +193,30 @@ fn push_winners(
     alloc: Global,
     sheet: &mut Sheet,
     naming: &Naming<'_>,
+    counts: &WinnerCounts<'_>,
     land: usize,
 ) -> Result<(), NoMemory>
+    requires { counts.now.returns.now ≡ naming.now.returns.now }
     ensures { OnOk result (table_of sheet.new ≡ with_rows (table_of sheet.old) (won_rows naming.now.returns.now land)) }
 {
     for party in 0..naming.returns.parties() {
-        push_won(alloc, sheet, naming, land, party)?;
+        push_won(alloc, sheet, naming, counts, land, party)?;
     }
     Ok(())
 }
 
 // The winners by Land and party.
-fn winners_sheet(alloc: Global, naming: &Naming<'_>) -> Result<Sheet, NoMemory>
+fn winners_sheet(
+    alloc: Global,
+    naming: &Naming<'_>,
+    counts: &WinnerCounts<'_>,
+) -> Result<Sheet, NoMemory>
+    requires { counts.now.returns.now ≡ naming.now.returns.now }
     ensures { IfOk result (λ s. table_of s ≡ winners_table naming.now.returns.now) }
 {
     let mut sheet = titled(alloc, naming, "winners", WINNERS_TITLE, &WINNERS)?;
     for land in 0..naming.returns.lands() {
-        push_winners(alloc, &mut sheet, naming, land)?;
+        push_winners(alloc, &mut sheet, naming, counts, land)?;
     }
     Ok(sheet)
 }
@@ -220,11 +240,12 @@ pub(crate) fn total_sheets(
     ensures { IfOk result (λ sheets. AreTotals (option_map (λ b. b.now) book.entry) naming.now.returns.now (map table_of sheets.items)) }
 {
     let conditions = conditions_of(book);
+    let counts = WinnerCounts::new(alloc, naming.returns)?;
     let mut sheets: Vec<Sheet> = Vec::new(alloc);
     add_sheet(&mut sheets, totals_sheet(alloc, naming))?;
     add_sheet(&mut sheets, votes_sheet(alloc, conditions, naming))?;
-    add_sheet(&mut sheets, lands_sheet(alloc, naming))?;
-    add_sheet(&mut sheets, winners_sheet(alloc, naming))?;
+    add_sheet(&mut sheets, lands_sheet(alloc, naming, &counts))?;
+    add_sheet(&mut sheets, winners_sheet(alloc, naming, &counts))?;
     add_sheet(&mut sheets, warnings_sheet(alloc, book, naming))?;
     Ok(sheets)
 }

@@ -15,6 +15,7 @@ use crate::returns::{warn, warn_of_returns};
 use crate::warning::Warning;
 use sl_base_quotients::NoMemory;
 use sl_check::{Columns, types_of};
+use sl_report_parties::WinnerCounts;
 use sl_stages::{Book, Cond, Lot, Returns, Seating, Shape, Stage, Win};
 use std::alloc::Global;
 
@@ -199,7 +200,7 @@ pub fn warnings_of(
     ensures { IfOk result (λ found. found.items ≡ warnings_of (option_map (λ b. book_of b.now) book.entry) returns.now) }
 {
     let mut found = Vec::new(alloc);
-    warn_of_returns(&mut found, returns)?;
+    warn_of_returns(&mut found, &WinnerCounts::new(alloc, returns)?)?;
     if let Some(book) = book {
         warn_of_book(&mut found, book, returns)?;
     }

@@ -9,7 +9,7 @@ ghost use Rattle.sl_report_warnings.specs.Warnings.{are_alike, counts_none, has_
 
 use crate::warning::Warning;
 use sl_base_quotients::NoMemory;
-use sl_report_parties::{lists_of, one_if, winners_at, winners_in, winners_of};
+use sl_report_parties::{WinnerCounts, lists_of, one_if};
 use sl_stages::Returns;
 
 /// Adds a warning where something holds.
@@ -42,54 +42,60 @@ fn are_alike(returns: &Returns) -> bool
 }
 
 // Whether a Land has no winners, where there are some.
-fn has_none(returns: &Returns, land: usize) -> bool
-    ensures { result ≡ has_none returns.now land }
+fn has_none(counts: &WinnerCounts<'_>, land: usize) -> bool
+    requires { land < lands_of counts.now.returns.now }
+    ensures { result ≡ has_none counts.now.returns.now land }
 {
-    returns.wins() >= 1 && winners_in(returns, land) == 0
+    counts.returns.wins() >= 1 && counts.in_land(land) == 0
 }
 
 // Warns of a Land without winners.
-fn warn_of_land(found: &mut Vec<Warning>, returns: &Returns, land: usize) -> Result<(), NoMemory>
-    ensures { OnOk result (found.new.items ≡ found.old.items ++ of_land returns.now land) }
+fn warn_of_land(
+    found: &mut Vec<Warning>,
+    counts: &WinnerCounts<'_>,
+    land: usize,
+) -> Result<(), NoMemory>
+    requires { land < lands_of counts.now.returns.now }
+    ensures { OnOk result (found.new.items ≡ found.old.items ++ of_land counts.now.returns.now land) }
 {
-    let has_none = has_none(returns, land);
+    let has_none = has_none(counts, land);
     warn(found, has_none, Warning::LandWithoutWinners { land })
 }
 
-fn warn_of_lands(found: &mut Vec<Warning>, returns: &Returns) -> Result<(), NoMemory>
-    ensures { OnOk result (found.new.items ≡ found.old.items ++ flat_map (of_land returns.now) (lands returns.now)) }
+fn warn_of_lands(found: &mut Vec<Warning>, counts: &WinnerCounts<'_>) -> Result<(), NoMemory>
+    ensures { OnOk result (found.new.items ≡ found.old.items ++ flat_map (of_land counts.now.returns.now) (lands counts.now.returns.now)) }
 {
-    for land in 0..returns.lands() {
-        warn_of_land(found, returns, land)?;
+    for land in 0..counts.returns.lands() {
+        warn_of_land(found, counts, land)?;
     }
     Ok(())
 }
 
 // The winners of a party in a Land in which it has no list.
-fn winners_beside(returns: &Returns, party: usize, land: usize) -> u64
-    requires land { land < lands_of returns.now }
-    requires party { party < parties_of returns.now }
-    ensures { result ≡ winners_beside returns.now party land }
+fn winners_beside(counts: &WinnerCounts<'_>, party: usize, land: usize) -> u64
+    requires land { land < lands_of counts.now.returns.now }
+    requires party { party < parties_of counts.now.returns.now }
+    ensures { result ≡ winners_beside counts.now.returns.now party land }
 {
-    if returns.is_list(land, party) {
+    if counts.returns.is_list(land, party) {
         0
     } else {
-        winners_at(returns, land, party)
+        counts.at(land, party)
     }
 }
 
 // Warns of the winners of a party in a Land in which it has no list.
 fn warn_of_place(
     found: &mut Vec<Warning>,
-    returns: &Returns,
+    counts: &WinnerCounts<'_>,
     party: usize,
     land: usize,
 ) -> Result<(), NoMemory>
-    requires land { land < lands_of returns.now }
-    requires party { party < parties_of returns.now }
-    ensures { OnOk result (found.new.items ≡ found.old.items ++ of_place returns.now party land) }
+    requires land { land < lands_of counts.now.returns.now }
+    requires party { party < parties_of counts.now.returns.now }
+    ensures { OnOk result (found.new.items ≡ found.old.items ++ of_place counts.now.returns.now party land) }
 {
-    let winners = winners_beside(returns, party, land);
+    let winners = winners_beside(counts, party, land);
     let warning = Warning::WinnersBesideLists {
         land,
         party,
@@ -98,12 +104,16 @@ fn warn_of_place(
     warn(found, winners >= 1, warning)
 }
 
-fn warn_of_places(found: &mut Vec<Warning>, returns: &Returns, party: usize) -> Result<(), NoMemory>
-    requires { party < parties_of returns.now }
-    ensures { OnOk result (found.new.items ≡ found.old.items ++ flat_map (of_place returns.now party) (lands returns.now)) }
+fn warn_of_places(
+    found: &mut Vec<Warning>,
+    counts: &WinnerCounts<'_>,
+    party: usize,
+) -> Result<(), NoMemory>
+    requires { party < parties_of counts.now.returns.now }
+    ensures { OnOk result (found.new.items ≡ found.old.items ++ flat_map (of_place counts.now.returns.now party) (lands counts.now.returns.now)) }
 {
-    for land in 0..returns.lands() {
-        warn_of_place(found, returns, party, land)?;
+    for land in 0..counts.returns.lands() {
+        warn_of_place(found, counts, party, land)?;
     }
     Ok(())
 }
@@ -111,21 +121,21 @@ fn warn_of_places(found: &mut Vec<Warning>, returns: &Returns, party: usize) -> 
 // Warns of the winners of a party beside its lists.
 fn warn_of_winners(
     found: &mut Vec<Warning>,
-    returns: &Returns,
+    counts: &WinnerCounts<'_>,
     party: usize,
 ) -> Result<(), NoMemory>
-    requires { party < parties_of returns.now }
-    ensures { OnOk result (found.new.items ≡ found.old.items ++ of_winners returns.now party) }
+    requires { party < parties_of counts.now.returns.now }
+    ensures { OnOk result (found.new.items ≡ found.old.items ++ of_winners counts.now.returns.now party) }
 {
-    let winners = winners_of(returns, Some(party));
+    let winners = counts.of(party);
     if winners == 0 {
         return Ok(());
     }
-    if lists_of(returns, party) == 0 {
+    if lists_of(counts.returns, party) == 0 {
         found.push(Warning::WinnersWithoutList { party, winners })?;
         return Ok(());
     }
-    warn_of_places(found, returns, party)
+    warn_of_places(found, counts, party)
 }
 
 // Whether a party has a list in a Land of which no valid vote is counted.
@@ -184,33 +194,40 @@ fn has_name_of_many(returns: &Returns, party: usize) -> bool
 
 // Warns of what is likely a mistake of a party.
 #[tactic(auto, using(std::proofs::Common::append_assoc))]
-fn warn_of_party(found: &mut Vec<Warning>, returns: &Returns, party: usize) -> Result<(), NoMemory>
-    requires { party < parties_of returns.now }
-    ensures { OnOk result (found.new.items ≡ found.old.items ++ of_party returns.now party) }
+fn warn_of_party(
+    found: &mut Vec<Warning>,
+    counts: &WinnerCounts<'_>,
+    party: usize,
+) -> Result<(), NoMemory>
+    requires { party < parties_of counts.now.returns.now }
+    ensures { OnOk result (found.new.items ≡ found.old.items ++ of_party counts.now.returns.now party) }
 {
-    warn_of_winners(found, returns, party)?;
-    let lists = uncounted_lists(returns, party);
+    warn_of_winners(found, counts, party)?;
+    let lists = uncounted_lists(counts.returns, party);
     warn(found, lists >= 1, Warning::NothingCounted { party, lists })?;
-    let is_many = has_name_of_many(returns, party);
+    let is_many = has_name_of_many(counts.returns, party);
     warn(found, is_many, Warning::SeveralParties { party })
 }
 
 // Warns of what is likely a mistake of a party, for each.
-fn warn_of_parties(found: &mut Vec<Warning>, returns: &Returns) -> Result<(), NoMemory>
-    ensures { OnOk result (found.new.items ≡ found.old.items ++ flat_map (of_party returns.now) (parties returns.now)) }
+fn warn_of_parties(found: &mut Vec<Warning>, counts: &WinnerCounts<'_>) -> Result<(), NoMemory>
+    ensures { OnOk result (found.new.items ≡ found.old.items ++ flat_map (of_party counts.now.returns.now) (parties counts.now.returns.now)) }
 {
-    for party in 0..returns.parties() {
-        warn_of_party(found, returns, party)?;
+    for party in 0..counts.returns.parties() {
+        warn_of_party(found, counts, party)?;
     }
     Ok(())
 }
 
-/// Adds the warnings of returns alone.
+/// Adds the warnings of returns alone, by how many winners there are.
 #[tactic(auto, using(std::proofs::Common::append_assoc))]
-pub(crate) fn warn_of_returns(found: &mut Vec<Warning>, returns: &Returns) -> Result<(), NoMemory>
-    ensures { OnOk result (found.new.items ≡ found.old.items ++ of_returns returns.now) }
+pub(crate) fn warn_of_returns(
+    found: &mut Vec<Warning>,
+    counts: &WinnerCounts<'_>,
+) -> Result<(), NoMemory>
+    ensures { OnOk result (found.new.items ≡ found.old.items ++ of_returns counts.now.returns.now) }
 {
-    warn(found, are_alike(returns), Warning::EqualPeople)?;
-    warn_of_lands(found, returns)?;
-    warn_of_parties(found, returns)
+    warn(found, are_alike(counts.returns), Warning::EqualPeople)?;
+    warn_of_lands(found, counts)?;
+    warn_of_parties(found, counts)
 }

@@ -120,6 +120,8 @@ module _ (IsText : Shape → Heading → Answer → List ℕ → Type 0) (bytes 
 
   -- a command that reports
   abbrev pub IsReported : Report → (names : Option (List ℕ)) → Style → Status → List ℕ → (Said → Type 0) → Type 0
+  IsReported (what.Seats book returns) names style ends text Says = IsReportOf show.Seats book.now returns.now names None style ends text Says
+  IsReported (what.Steps book returns) names style ends text Says = IsReportOf show.Steps book.now returns.now names None style ends text Says
   IsReported (what.Count book returns) names style ends text Says = IsReportOf show.Report book.now returns.now names None style ends text Says
   IsReported (what.Short book returns before) names style ends text Says =
       IsReportOf (show.Short None) book.now returns.now names (option_map (λ path. path.now) before) style ends text Says

@@ -67,11 +67,8 @@ IsOfFault bytes (asked.Report what form names) Says = Unit {0}
 
 -- requests that warn of what they count
 abbrev pub warns_of : Report → Bool
-warns_of (what.Count book returns) = true
-warns_of (what.Short book returns before) = true
-warns_of (what.Stages book returns) = true
 warns_of (what.Totals returns book) = false
-warns_of (what.Compare returns books methods) = true
+warns_of reported = true
 
 abbrev pub warns : Request → Bool
 warns (asked.Count show book returns) = true

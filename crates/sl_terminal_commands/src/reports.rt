@@ -249,16 +249,18 @@ impl<O: Outside> Commands<'_, O> {
         &self,
         forms: &F,
         show: Show<'_>,
-        paths: Paths<'a>,
+        book: &'a str,
+        returns: &'a str,
         writing: Writing<'a>,
     ) -> Result<Answered, Failure<'a, O::Reason>>
-        ensures answer { IfOk result (λ a. IsReportOf (F.is_text forms.now) (O.bytes self.now.outside.now) show.entry paths.entry.book.now paths.entry.returns.now
+        ensures answer { IfOk result (λ a. IsReportOf (F.is_text forms.now) (O.bytes self.now.outside.now) show.entry book.now returns.now
             (option_map (λ path. path.now) writing.entry.names) (option_map (λ path. path.now) writing.entry.before) writing.entry.style a.status a.text.items
             (λ s. IsSaid writing.entry.style.language s a.said.items)) }
         ensures done { IfOk result (λ a. a.status ≡ status.Done → AreWarnings writing.entry.style.language a.said.items) }
     {
-        match self.judged_at(paths.book, paths.returns) {
+        match self.judged_at(book, returns) {
             Ok(read) => {
+                let paths = Paths { book, returns };
                 let answered = self.report_read(forms, show, &read, paths, writing);
                 drop(read);
                 answered
@@ -289,34 +291,28 @@ impl<O: Outside> Commands<'_, O> {
             },
         };
         match what {
+            Report::Seats { book, returns } => {
+                self.report_count(forms, Show::Seats, *book, *returns, writing)
+            }
+            Report::Steps { book, returns } => {
+                self.report_count(forms, Show::Steps, *book, *returns, writing)
+            }
             Report::Count { book, returns } => {
-                let paths = Paths {
-                    book: *book,
-                    returns: *returns,
-                };
-                self.report_count(forms, Show::Report, paths, writing)
+                self.report_count(forms, Show::Report, *book, *returns, writing)
             }
             Report::Short {
                 book,
                 returns,
                 before,
             } => {
-                let paths = Paths {
-                    book: *book,
-                    returns: *returns,
-                };
                 let writing = Writing {
                     before: *before,
                     ..writing
                 };
-                self.report_count(forms, Show::Short(None), paths, writing)
+                self.report_count(forms, Show::Short(None), *book, *returns, writing)
             }
             Report::Stages { book, returns } => {
-                let paths = Paths {
-                    book: *book,
-                    returns: *returns,
-                };
-                self.report_count(forms, Show::Stages, paths, writing)
+                self.report_count(forms, Show::Stages, *book, *returns, writing)
             }
             Report::Totals { returns, book } => {
                 self.report_totals(forms, *returns, *book, writing)

@@ -6,7 +6,7 @@ use Rattle.clap.specs.declared.error.kind.ErrorKind.TheVariants as kind
 use Rattle.sl_explain_texts.specs.declared.code.FaultCode.TheVariants.{B15}
 use Rattle.sl_explain_texts.specs.declared.language.Language.TheVariants.{German}
 use Rattle.sl_terminal_words.specs.Answers.{asked_in, faults_in}
-use Rattle.sl_terminal_words.specs.Requests.{Wish, compiled, counted, explained, reported, seats, short, stage}
+use Rattle.sl_terminal_words.specs.Requests.{Wish, compiled, counted, explained, reported, seat_table, seats, short, stage}
 use Rattle.sl_terminal_words.specs.declared.options.Options.{Options}
 use Rattle.sl_terminal_words.specs.declared.reports.ReportForm.TheVariants as form
 
@@ -23,6 +23,11 @@ count = refl
 count_is_well : faults_in of_count ≡ []
 unfolding clap_on_literals faults_in
 count_is_well = refl
+
+count_in_json : asked_in (codes "seatlaw" ∷ codes "count" ∷ codes "--json" ∷ codes "b" ∷ codes "r" ∷ [])
+    ≡ Some (spoken (reported (seat_table (codes "b") (codes "r")) form.Json None))
+unfolding clap_on_literals asked_in
+count_in_json = refl
 
 no_returns : faults_in (codes "seatlaw" ∷ codes "count" ∷ codes "book" ∷ []) ≡ kind.MissingRequiredArgument ∷ []
 unfolding clap_on_literals faults_in

@@ -1,5 +1,6 @@
 -- Lemmas on what is given to a command, and on the program that is built up.
 pub mod Matched
+pub mod Reporting
 pub mod Programs
 pub mod Places
 pub mod PlacesFaults

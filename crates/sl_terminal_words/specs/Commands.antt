@@ -11,7 +11,7 @@ use Rattle.clap.specs.declared.builder.value_parser.ValueParser.TheVariants.{Nam
 use Rattle.sl_terminal_words.specs.declared.help.Name.{Name}
 use Rattle.sl_terminal_words.specs.declared.help.Name.TheVariants.{Count, Steps, Stage, Check, Code, Run, Law, Explain, Report, Stages, Totals, Compare}
 use Rattle.sl_terminal_words.specs.declared.words.WordName.{WordName}
-use Rattle.sl_terminal_words.specs.declared.words.WordName.TheVariants.{Book, OptionalBook, Books, Returns, StageName, Out, CodeFile, Statute, FaultCode, Short, Markdown, Html, Json, Csv, Before, Method, Names as FullNames, Quiet, Language, Force, Help, Version}
+use Rattle.sl_terminal_words.specs.declared.words.WordName.TheVariants.{Book, OptionalBook, Books, Returns, StageName, Out, CodeFile, Statute, FaultCode, Short, Markdown, Html, Json, PlainJson, Csv, Before, Method, Names as FullNames, Quiet, Language, Force, Help, Version}
 
 -- ---- words in memory
 
@@ -83,6 +83,7 @@ rule_named Short = flag (codes "short")
 rule_named Markdown = flag (codes "markdown")
 rule_named Html = tied (flag (codes "html"))
 rule_named Json = tied (flag (codes "json"))
+rule_named PlainJson = flag (codes "json")
 rule_named Csv = tied (flag (codes "csv"))
 rule_named Before = tied (valued (codes "before"))
 rule_named Method = tied (chosen_again (codes "method") method_words)
@@ -140,6 +141,8 @@ abbrev pub reporting : List WordName
 reporting = Markdown ∷ Html ∷ Json ∷ Csv ∷ FullNames ∷ speaking
 
 abbrev pub options_of : Name → List WordName
+options_of Count = PlainJson ∷ speaking
+options_of Steps = PlainJson ∷ speaking
 options_of Code = Force ∷ speaking
 options_of Report = Short ∷ Before ∷ reporting
 options_of Stages = reporting

@@ -30,6 +30,10 @@ pub data View : Type 0 where
 
 -- what is reported
 pub data Page : Type 0 where
+  -- the seat table of one count, as `count` has it: a rulebook and returns
+  seat_table : Text → Text → Page
+  -- the step that won each seat, with the seat table, as `steps` has it
+  step_table : Text → Text → Page
   -- one count: a rulebook and returns
   count : Text → Text → Page
   -- what the press needs of it, with an earlier seat table if one is given
@@ -65,6 +69,8 @@ view_of show.Steps = steps
 view_of (show.Stage name) = stage name.now
 
 abbrev pub page_of : Reported → Page
+page_of (report.Seats book returns) = seat_table book.now returns.now
+page_of (report.Steps book returns) = step_table book.now returns.now
 page_of (report.Count book returns) = count book.now returns.now
 page_of (report.Short book returns before) = short book.now returns.now (option_map (λ word. word.now) before)
 page_of (report.Stages book returns) = stages book.now returns.now
@@ -127,6 +133,11 @@ law_by given = option_map (λ name. law name) (word_in given (codes "NAME"))
 abbrev pub explained_by : List Row → Option Wish
 explained_by given = option_map (λ code. explained code) (option_and_then code_named (word_in given (codes "CODE")))
 
+-- what `count` and `steps` report, which is so only where JSON is asked for
+abbrev pub table_page : (Text → Text → Page) → List Row → Option Page
+table_page table given = if flag_in given (codes "json")
+    then of_two (word_in given (codes "BOOK")) (word_in given (codes "RETURNS")) (λ book returns. Some (table book returns)) else None
+
 -- what `report` reports, `stages`, `totals` and `compare`
 abbrev pub counted_page : List Row → Option Page
 counted_page given = of_two (word_in given (codes "BOOK")) (word_in given (codes "RETURNS")) (λ book returns.
@@ -146,6 +157,8 @@ comparison_page given =
     (word_in given (codes "RETURNS"))
 
 abbrev pub page_by : Name → List Row → Option Page
+page_by Count given = table_page seat_table given
+page_by Steps given = table_page step_table given
 page_by Report given = counted_page given
 page_by Stages given = stages_page given
 page_by Totals given = totals_page given
@@ -162,9 +175,13 @@ abbrev pub reported_by : Name → List Row → Option Wish
 reported_by command given =
     option_map (λ page. reported page (form_by given) (word_in given (codes "names"))) (page_by command given)
 
+-- what `count` and `steps` ask for: a report where JSON is asked for, and else to show a view
+abbrev pub shown_by : Name → View → List Row → Option Wish
+shown_by command view given = if flag_in given (codes "json") then reported_by command given else counted_by view given
+
 abbrev pub wish_by : Name → List Row → Option Wish
-wish_by Count given = counted_by seats given
-wish_by Steps given = counted_by steps given
+wish_by Count given = shown_by Count seats given
+wish_by Steps given = shown_by Steps steps given
 wish_by Stage given = staged_by given
 wish_by Check given = checked_by given
 wish_by Code given = compiled_by given
@@ -196,6 +213,8 @@ command_of_view show.Steps = Steps
 command_of_view (show.Stage name) = Stage
 
 abbrev pub command_of_page : Reported → Name
+command_of_page (report.Seats book returns) = Count
+command_of_page (report.Steps book returns) = Steps
 command_of_page (report.Stages book returns) = Stages
 command_of_page (report.Totals returns book) = Totals
 command_of_page (report.Compare returns books methods) = Compare

@@ -96,6 +96,8 @@ impl Request<'_> {
             Request::Law { .. } => "law",
             Request::Explain { .. } => "explain",
             Request::Report { what, .. } => match what {
+                Report::Seats { .. } => "count",
+                Report::Steps { .. } => "steps",
                 Report::Count { .. } | Report::Short { .. } => "report",
                 Report::Stages { .. } => "stages",
                 Report::Totals { .. } => "totals",

@@ -12,7 +12,8 @@ use crate::texts::help::{
     STAGES_MORE, STEPS_ABOUT, STEPS_MORE, TOTALS_ABOUT, TOTALS_MORE,
 };
 use crate::words::{
-    CODE_OPTIONS, COMPARE_OPTIONS, COUNT_REPORT_OPTIONS, OPTIONS, REPORT_OPTIONS, WordName,
+    CODE_OPTIONS, COMPARE_OPTIONS, COUNT_OPTIONS, COUNT_REPORT_OPTIONS, OPTIONS, REPORT_OPTIONS,
+    WordName,
 };
 use sl_explain_texts::Message;
 
@@ -42,7 +43,7 @@ static COUNT: Form = Form {
     name: "count",
     about: COUNT_ABOUT,
     words: &[WordName::Book, WordName::Returns],
-    options: &OPTIONS,
+    options: &COUNT_OPTIONS,
     more: COUNT_MORE,
     example: "count @2023-order returns.csv",
     statuses: &COUNTS,
@@ -52,7 +53,7 @@ static STEPS: Form = Form {
     name: "steps",
     about: STEPS_ABOUT,
     words: &[WordName::Book, WordName::Returns],
-    options: &OPTIONS,
+    options: &COUNT_OPTIONS,
     more: STEPS_MORE,
     example: "steps @2023-order returns.csv",
     statuses: &COUNTS,

@@ -1,7 +1,7 @@
 //! The command line of the program: its words, what they ask for, and the help.
 //!
 //! Stands on `sl_explain_texts` and `sl_laws`; used by the room terminal. Proved: which request the words ask for (specs/Answers.antt); and why they are
-//! refused, or shown a text, where they begin with a command that does not report. Only tested: the texts.
+//! refused, or shown a text, where they begin with a command none of whose options is tied to another. Only tested: the texts.
 //!
 //! Where an error is `NoMemory` alone, memory ran out, and nothing else is wrong.
 #![tactic(auto)]

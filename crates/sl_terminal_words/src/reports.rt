@@ -2,7 +2,7 @@
 
 ghost use Rattle.std.specs.Prelude.{◌≡◌, IfOk, option_map};
 ghost use Rattle.clap.specs.Words.{found_of, rows_of};
-ghost use Rattle.sl_terminal_words.specs.Requests.{comparison_page, counted_page, form_by, page_by, page_of, stages_page, totals_page};
+ghost use Rattle.sl_terminal_words.specs.Requests.{comparison_page, counted_page, form_by, page_by, page_of, seat_table, stages_page, step_table, table_page, totals_page};
 
 use crate::given::{flag_in, word_in, words_in};
 use crate::help::Name;
@@ -12,6 +12,16 @@ use std::alloc::{AllocError, Global};
 /// What is reported.
 #[derive(Drop)]
 pub enum Report<'a> {
+    /// The seat table, as `count` has it.
+    Seats {
+        book: &'a str,
+        returns: &'a str,
+    },
+    /// The step that won each seat, with the seat table, as `steps` has it.
+    Steps {
+        book: &'a str,
+        returns: &'a str,
+    },
     /// One count.
     Count {
         book: &'a str,
@@ -68,6 +78,30 @@ pub(crate) fn form_of(given: &ArgMatches<'_>) -> ReportForm
     }
 }
 
+// What `count` reports, where JSON is asked for.
+fn tabling_seats<'a>(given: &ArgMatches<'a>) -> Option<Report<'a>>
+    ensures { option_map page_of result ≡ table_page seat_table (rows_of (found_of given.now)) }
+{
+    if !flag_in(given, "json") {
+        return None;
+    }
+    let book = word_in(given, "BOOK")?;
+    let returns = word_in(given, "RETURNS")?;
+    Some(Report::Seats { book, returns })
+}
+
+// What `steps` reports, where JSON is asked for.
+fn tabling_steps<'a>(given: &ArgMatches<'a>) -> Option<Report<'a>>
+    ensures { option_map page_of result ≡ table_page step_table (rows_of (found_of given.now)) }
+{
+    if !flag_in(given, "json") {
+        return None;
+    }
+    let book = word_in(given, "BOOK")?;
+    let returns = word_in(given, "RETURNS")?;
+    Some(Report::Steps { book, returns })
+}
+
 // What `report` reports.
 fn reporting<'a>(given: &ArgMatches<'a>) -> Option<Report<'a>>
     ensures { option_map page_of result ≡ counted_page (rows_of (found_of given.now)) }
@@ -120,7 +154,7 @@ fn comparing<'a>(alloc: Global, given: &ArgMatches<'a>) -> Result<Option<Report<
     }))
 }
 
-/// What a command reports with the words given to it; `None` for one that does not report.
+/// What a command reports with the words given to it; `None` where it does not report.
 pub(crate) fn report_of<'a>(
     alloc: Global,
     name: Name,
@@ -129,6 +163,8 @@ pub(crate) fn report_of<'a>(
     ensures { IfOk result (λ r. option_map page_of r ≡ page_by name (rows_of (found_of given.now))) }
 {
     match name {
+        Name::Count => Ok(tabling_seats(given)),
+        Name::Steps => Ok(tabling_steps(given)),
         Name::Report => Ok(reporting(given)),
         Name::Stages => Ok(staging(given)),
         Name::Totals => Ok(totalling(given)),

@@ -81,7 +81,7 @@ fn explaining<'a>(given: &ArgMatches<'a>) -> Option<Request<'a>>
     Some(Request::Explain { code })
 }
 
-// What a command that does not report asks for.
+// What a command asks for where it does not report.
 fn desk_request<'a>(name: Name, given: &ArgMatches<'a>) -> Option<Request<'a>>
     ensures { option_map wish_of result ≡ desk_wish name (rows_of (found_of given.now)) }
 {

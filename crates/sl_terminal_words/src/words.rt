@@ -120,6 +120,12 @@ static JSON: Word = Word {
     help: JSON_HELP,
 };
 
+static PLAIN_JSON: Word = Word {
+    name: "json",
+    given: Given::Flag(&[]),
+    help: JSON_HELP,
+};
+
 static CSV: Word = Word {
     name: "csv",
     given: Given::Flag(&["markdown", "html", "json"]),
@@ -198,6 +204,8 @@ pub enum WordName {
     Markdown,
     Html,
     Json,
+    /// JSON of a command that has no other form: the flag stands alone, tied to no other word.
+    PlainJson,
     Csv,
     Before,
     Method,
@@ -230,6 +238,7 @@ impl WordName {
             WordName::Markdown => &MARKDOWN,
             WordName::Html => &HTML,
             WordName::Json => &JSON,
+            WordName::PlainJson => &PLAIN_JSON,
             WordName::Csv => &CSV,
             WordName::Before => &BEFORE,
             WordName::Method => &METHOD,
@@ -248,6 +257,13 @@ pub(crate) const OPTIONS: [WordName; 2] = [WordName::Quiet, WordName::Language];
 
 pub(crate) const CODE_OPTIONS: [WordName; 3] = [
     WordName::Force,
+    WordName::Quiet,
+    WordName::Language,
+];
+
+/// Those of `count` and `steps`.
+pub(crate) const COUNT_OPTIONS: [WordName; 3] = [
+    WordName::PlainJson,
     WordName::Quiet,
     WordName::Language,
 ];

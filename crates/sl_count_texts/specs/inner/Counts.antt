@@ -1,5 +1,5 @@
--- What the body of the bounds lines promises on the way.
-use Rattle.std.specs.Prelude.{◌≡◌, ℕ, ◌+◌, false, List, Option, Some, None, All, unwrap_or, bytes_eq}
+-- What the bodies of the bounds and of their lines promise on the way.
+use Rattle.std.specs.Prelude.{◌≡◌, ℕ, ◌+◌, ◌++◌, false, List, Option, Some, None, All, unwrap_or, bytes_eq}
 use Rattle.std.specs.HashMap.{HashMap, get}
 use Rattle.sl_law_meaning.specs.declared.table.Weight.{Weight}
 use Rattle.sl_count_texts.specs.Lines.{Draft, with_lines}
@@ -22,6 +22,10 @@ counted_seats counts w = count_of counts (weight_key w)
 abbrev pub IsWithin : {A : Type 0} → (A → Type 0) → List A → Option (List A) → Type 0
 IsWithin P xs (Some ys) = (ys ≡ xs) × All P xs
 IsWithin P xs None = ¬ All P xs
+
+-- a list that has more elements than before
+abbrev pub HasMore : {A : Type 0} → List A → (List A → Type 0) → List A → Type 0
+HasMore {A = A} before AreMore after = (more : List A) × AreMore more × (after ≡ before ++ more)
 
 -- a text that has more lines than before
 abbrev pub HasLines : Draft → (List ℕ → Type 0) → Draft → Type 0

@@ -4,16 +4,18 @@ use Rattle.clap.specs.Walk.{Row}
 use Rattle.clap.specs.declared.error.kind.ErrorKind.{ErrorKind}
 use Rattle.clap.specs.declared.error.kind.ErrorKind.TheVariants.{OutOfMemory}
 use Rattle.sl_terminal_words.specs.Answers.{is_call}
-use Rattle.sl_terminal_words.specs.Requests.{Wish, asked_of, wish_by}
+use Rattle.sl_terminal_words.specs.Requests.{Wish, asked_of, counted_by, seats, steps, wish_by}
 use Rattle.sl_terminal_words.specs.declared.answers.Answer.{Answer}
 use Rattle.sl_terminal_words.specs.declared.answers.Answer.TheVariants.{Shown, Refused, NoMemory}
 use Rattle.sl_terminal_words.specs.declared.command_line.Asked.{Asked}
 use Rattle.sl_terminal_words.specs.declared.help.Name.{Name}
-use Rattle.sl_terminal_words.specs.declared.help.Name.TheVariants.{Report, Stages, Totals, Compare}
+use Rattle.sl_terminal_words.specs.declared.help.Name.TheVariants.{Count, Steps, Report, Stages, Totals, Compare}
 use Rattle.sl_terminal_words.specs.declared.options.Options.{Options}
 
--- what a command asks for that does not report
+-- what a command asks for where it does not report
 abbrev pub desk_wish : Name → List Row → Option Wish
+desk_wish Count given = counted_by seats given
+desk_wish Steps given = counted_by steps given
 desk_wish Report given = None
 desk_wish Stages given = None
 desk_wish Totals given = None

@@ -20,11 +20,12 @@ pub(crate) const COUNT_ABOUT: Message = Message {
 pub(crate) const COUNT_MORE: Message = Message {
     english: "Reads a rulebook and returns. Writes the seats in all, of each party and of each list,\n\
               how many of them constituency winners fill, the seats that stay vacant, and the winners\n\
-              who sit by themselves or are not seated; or else the line of a legal fault.",
+              who sit by themselves or are not seated; or else the line of a legal fault. With\n\
+              `--json` the same is written as tables in JSON.",
     german: "Liest ein Regelwerk und Wahlergebnisse. Schreibt die Sitze insgesamt, die jeder Partei und\n\
              jeder Liste, wie viele davon Wahlkreissieger besetzen, die Sitze, die unbesetzt bleiben,\n\
              und die Sieger, die ohne Liste sitzen oder keinen Sitz haben; oder aber die Zeile eines\n\
-             rechtlichen Fehlers.",
+             rechtlichen Fehlers. Mit `--json` schreibt der Befehl dasselbe als Tabellen in JSON.",
 };
 
 pub(crate) const STEPS_ABOUT: Message = Message {
@@ -36,11 +37,12 @@ pub(crate) const STEPS_MORE: Message = Message {
     english: "Reads a rulebook and returns. Writes a line for each seat of a distribution, with the\n\
               step in which it was won and the quotient or remainder that won it; then the bounds\n\
               between which every divisor gives just these seats; and at the end the text of `count`.\n\
-              Or else the line of a legal fault.",
+              Or else the line of a legal fault. With `--json` the same is written as tables in JSON.",
     german: "Liest ein Regelwerk und Wahlergebnisse. Schreibt für jeden Sitz einer Verteilung eine Zeile\n\
              mit dem Schritt, in dem er gewonnen wurde, und der Höchstzahl oder dem Bruchteil, der ihn\n\
              brachte; dann die Grenzen, zwischen denen jeder Divisor genau diese Sitze ergibt; und am\n\
-             Ende den Text von `count`. Oder aber die Zeile eines rechtlichen Fehlers.",
+             Ende den Text von `count`. Oder aber die Zeile eines rechtlichen Fehlers. Mit `--json`\n\
+             schreibt der Befehl dasselbe als Tabellen in JSON.",
 };
 
 pub(crate) const STAGE_ABOUT: Message = Message {

@@ -28,8 +28,8 @@ pub(crate) const OPTION_BEHIND: Message = Message {
 };
 
 pub(crate) const REPORTS: Message = Message {
-    english: "`--markdown`, `--html`, `--json`, `--csv` and `--names` are options of report, stages, totals and compare",
-    german: "`--markdown`, `--html`, `--json`, `--csv` und `--names` sind Optionen von report, stages, totals und compare",
+    english: "`--markdown`, `--html`, `--json`, `--csv` and `--names` are options of report, stages, totals and compare, and `--json` of count and steps too",
+    german: "`--markdown`, `--html`, `--json`, `--csv` und `--names` sind Optionen von report, stages, totals und compare, und `--json` auch von count und steps",
 };
 
 pub(crate) const CODE_ALONE: Message = Message {

@@ -1,8 +1,8 @@
-use Rattle.std.proofs.Common.{map, take}
-use Rattle.sl_count_texts.specs.Bounds.{AreBoundsLines}
-use Rattle.sl_count_texts.specs.inner.Counts.{counted_seats, HasLines}
+use Rattle.std.proofs.Common.{◌≡◌, flat_map, map, take}
+use Rattle.sl_count_texts.specs.Bounds.{bounds_line}
+use Rattle.sl_count_texts.specs.Lines.{with_lines}
 use Rattle.sl_count_texts.proofs.bounds_form.bounds_lines.Given as goal
 
-abbrev pub invariant-loop-scope : goal.invariant-loop-scope
-invariant-loop-scope l =
-    HasLines l.initial.text (AreBoundsLines (map (λ s. s.name) l.code.stages) l.returns (counted_seats l.counts) (take l.scope-index (map (λ s. map (λ w. w.now) s.now) l.scope-items))) l.text
+abbrev pub invariant-loop-bounds : goal.invariant-loop-bounds
+invariant-loop-bounds l =
+    l.text ≡ with_lines l.initial.text (flat_map (bounds_line (map (λ s. s.name) l.code.stages) l.returns) (take l.bounds-index l.bounds-items))

@@ -1,18 +1,19 @@
-use Rattle.std.proofs.Common.{◌≡◌, arith, cond, count_by}
+use Rattle.std.proofs.Common.{◌≡◌, ◌+◌, ◌∙◌, ap, arith, cond, count_by}
 use Rattle.std.specs.Prelude.{sum_by}
 use Rattle.sl_report_parties.specs.Sums.{capped}
 use Rattle.sl_report_parties.specs.Seats.{is_single, is_seated}
+use Rattle.sl_report_parties.specs.inner.PartySeats.{capped_seats}
 use Rattle.sl_report_parties.proofs.SeatSums.{item_step, item_end}
 use Rattle.sl_report_parties.proofs.seats.seats_in_all.Goals as goal
 
 pub loop-list-preserved : goal.loop-list-preserved
 loop-list-preserved c =
     let items = c.lists-list-items.result.now in
-    let seats = item_step (λ l. l.seats) items c.loop-list.list-index _ 0 _ _ c.loop-list-test.true (omega (arith, c.loop-list.invariant.seats)) c.and_list-seats.ensures.seats in
-    let vacant = item_step (λ l. l.vacant) items c.loop-list.list-index _ 0 _ _ c.loop-list-test.true (omega (arith, c.loop-list.invariant.vacant)) c.and_list-seats.ensures.vacant in
+    let seats = item_step (λ l. l.seats) items c.loop-list.list-index _ 0 _ _ c.loop-list-test.true (omega (arith, c.loop-list.invariant.seats)) (ap (λ s. s.seats) c.and-seats.ensures) in
+    let vacant = item_step (λ l. l.vacant) items c.loop-list.list-index _ 0 _ _ c.loop-list-test.true (omega (arith, c.loop-list.invariant.vacant)) (ap (λ s. s.vacant) c.and-seats.ensures) in
     record {
       seats = omega (arith, seats);
-      direct = omega (arith, c.and_list-seats.ensures.direct, c.loop-list.invariant.direct);
+      direct = omega (arith, ap (λ s. s.direct) c.and-seats.ensures, c.loop-list.invariant.direct);
       vacant = omega (arith, vacant);
     }
 
@@ -26,12 +27,15 @@ loop-place-init c =
 pub loop-place-preserved : goal.loop-place-preserved
 loop-place-preserved c =
     let items = c.placed-place-items.result.now in
-    let seats = item_step (λ p. cond (is_single p) 1 0) items c.loop-place.place-index _ (sum_by (λ l. l.seats) c.args.table.now.lists) _ _ c.loop-place-test.true c.loop-place.invariant.seats c.and_winner-seats.ensures.seats in
-    let direct = item_step (λ p. cond (is_seated p) 1 0) items c.loop-place.place-index _ 0 _ _ c.loop-place-test.true (omega (arith, c.loop-place.invariant.direct)) c.and_winner-seats.ensures.direct in
+    let before = c.loop-place.seats in
+    let more = ap (λ m. capped_seats (before.seats + m.seats) (before.direct + m.direct) (before.vacant + m.vacant)) c.seats_placed-more.ensures in
+    let grown = c.and-seats-in-loop-place.ensures ∙ more in
+    let seats = item_step (λ p. cond (is_single p) 1 0) items c.loop-place.place-index _ (sum_by (λ l. l.seats) c.args.table.now.lists) _ _ c.loop-place-test.true c.loop-place.invariant.seats (ap (λ s. s.seats) grown) in
+    let direct = item_step (λ p. cond (is_seated p) 1 0) items c.loop-place.place-index _ 0 _ _ c.loop-place-test.true (omega (arith, c.loop-place.invariant.direct)) (ap (λ s. s.direct) grown) in
     record {
       seats = seats;
       direct = omega (arith, direct);
-      vacant = omega (arith, c.and_winner-seats.ensures.vacant, c.loop-place.invariant.vacant);
+      vacant = omega (arith, ap (λ s. s.vacant) grown, c.loop-place.invariant.vacant);
     }
 
 pub returns : goal.returns

@@ -4,5 +4,5 @@ use Rattle.sl_report_forms.specs.Tables.{table_of, with_rows}
 use Rattle.sl_report_tables.specs.Compare.{compared, seats_row}
 use Rattle.sl_report_tables.proofs.changes.push_books.Given as goal
 
-abbrev pub invariant-loop-judged : goal.invariant-loop-judged
-invariant-loop-judged l = table_of l.sheet ≡ with_rows (table_of l.initial.sheet) (flat_map (λ j. map (seats_row l.naming.returns.now l.first j) (compared l.naming.returns.now)) (take l.judged-index l.books))
+abbrev pub invariant-loop-book : goal.invariant-loop-book
+invariant-loop-book l = table_of l.sheet ≡ with_rows (table_of l.initial.sheet) (flat_map (λ x. map (seats_row l.naming.returns.now l.first.judged.now x.judged.now) (compared l.naming.returns.now)) (take l.book-index l.books))

@@ -1,4 +1,4 @@
-use Rattle.std.proofs.Common.{ap, append_assoc, map, refl, ◌∙◌, ◌++◌, ◌∷◌, []}
+use Rattle.std.proofs.Common.{ap, append_assoc, false, map, refl, ◌∙◌, ◌++◌, ◌∷◌, []}
 use Rattle.sl_report_forms.specs.Tables.{table_of}
 use Rattle.sl_report_tables.specs.Parties.{lists_table}
 use Rattle.sl_report_tables.specs.Reports.{winner_tables}
@@ -10,7 +10,7 @@ pub returns : goal.returns
 returns c =
     let e = c.args.setting.now.returns.now in
     let before = map table_of c.args.sheets.now.items in
-    let lists = lists_table e c.args.counted.now.table in
+    let lists = lists_table false e c.args.counted.now.table in
     let scopes = scope_tables c.in_ok-scopes.scopes.items in
     let winners = c.in_ok-push_winner_sheets.ensures in
     record {

@@ -8,12 +8,12 @@ pub loop-list-preserved : goal.loop-list-preserved
 loop-list-preserved c =
     let xs = c.lists-list-items.result.now in
     let n = c.loop-list.list-index in
-    rows_kept (list_row c.args.returns.now) (is_shown_list c.args.returns.now) xs n _ _ _ _ (slice_get-get_or xs n _ c.loop-list-test.true) c.loop-list.invariant c.in_ok-push_list.ensures
+    rows_kept (list_row c.args.returns.now) (is_shown_list c.args.any c.args.returns.now) xs n _ _ _ _ (slice_get-get_or xs n _ c.loop-list-test.true) c.loop-list.invariant c.in_ok-push_list.ensures
 
 pub returns : goal.returns
 returns c =
     let e = c.args.returns.now in
     let table = c.args.table.now in
-    rows_end (λ xs. map (list_row e) (filter (is_shown_list e) xs)) c.lists-list-items.result.now c.loop-list.list-index _ _ _
+    rows_end (λ xs. map (list_row e) (filter (is_shown_list c.args.any e) xs)) c.lists-list-items.result.now c.loop-list.list-index _ _ _
     c.loop-list-test.false c.in_ok-sheet.ensures c.loop-list.invariant
-    ∙ ap (λ xs. record (lists_table e table) { rows = map (list_row e) (filter (is_shown_list e) xs) }) c.lists-list-items.ensures
+    ∙ ap (λ xs. record (lists_table c.args.any e table) { rows = map (list_row e) (filter (is_shown_list c.args.any e) xs) }) c.lists-list-items.ensures

@@ -3,7 +3,7 @@ use Rattle.std.specs.Prelude.{option_map}
 use Rattle.std.specs.Result.{result_and}
 use Rattle.sl_base_quotients.specs.declared.no_memory.NoMemory.{NoMemory}
 use Rattle.sl_report_forms.specs.Cells.{Content}
-use Rattle.sl_report_forms.specs.Tables.{Table, table_of, with_rows}
+use Rattle.sl_report_forms.specs.Tables.{Table, with_rows}
 use Rattle.sl_report_forms.specs.declared.sheet.Sheet.{Sheet}
 use Rattle.sl_report_parties.specs.declared.earlier.EarlierParty.{EarlierParty}
 use Rattle.sl_report_tables.specs.Press.{gone_rows, press_row, press_table, sum_row}

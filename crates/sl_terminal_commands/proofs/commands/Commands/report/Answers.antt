@@ -1,14 +1,19 @@
-use Rattle.std.proofs.Common.{Bor, List, None, Option, map, option_map, subst, sym, ◌∙◌, ℕ}
+use Rattle.std.proofs.Common.{Bor, List, Option, map, option_map, subst, sym, ◌∙◌, ◌≡◌, ℕ}
 use Rattle.std.proofs.lemmas.Result.{IfOk-weaker}
+use Rattle.std.specs.Prelude.{IfOk, Result}
 use Rattle.sl_explain_texts.specs.declared.language.Language.{Language}
 use Rattle.sl_report_commands.specs.declared.written.Style.{Style}
+use Rattle.sl_report_forms.specs.declared.heading.Heading.{Heading}
+use Rattle.sl_report_tables.specs.declared.answer.Answer.{Answer}
 use Rattle.sl_report_tables.specs.declared.answer.Shape.{Shape}
-use Rattle.sl_report_tables.specs.declared.counts.Show.TheVariants as show
 use Rattle.sl_terminal_commands.proofs.Columns.{comparison_warns}
 use Rattle.sl_terminal_commands.proofs.commands.Commands.report.Goals as goal
 use Rattle.sl_terminal_commands.specs.Comparisons.{IsComparisonOf}
-use Rattle.sl_terminal_commands.specs.Requests.{IsReportOf, IsReported, style_of}
+use Rattle.sl_terminal_commands.specs.Requests.{IsReported, shape_of, style_of}
 use Rattle.sl_terminal_commands.specs.Said.{IsSaid}
+use Rattle.sl_terminal_commands.specs.declared.answered.Answered.{Answered}
+use Rattle.sl_terminal_words.specs.declared.reports.Report.{Report}
+use Rattle.sl_terminal_words.specs.declared.reports.ReportForm.{ReportForm}
 
 abbrev own_style : Shape → Language → Style
 own_style shape language = record { shape = shape; language = language }
@@ -16,35 +21,38 @@ own_style shape language = record { shape = shape; language = language }
 abbrev names_of : Option (Bor (List ℕ)) → Option (List ℕ)
 names_of names = option_map (λ (path : Bor (List ℕ)). path.now) names
 
-pub returns-in-Count-clause-output : goal.returns-in-Count-clause-output
-returns-in-Count-clause-output g c =
-    IfOk-weaker c.report_count.result _ _
-    (
-    λ a h.
-    subst (λ q. IsReported (g.F.Forms.is_text c.args.forms.now) (g.O.Outside.bytes c.args.self.now.outside.now) q (names_of c.args.names) (style_of c.args.form c.args.self.now.language) a.status a.text.items (λ s. IsSaid c.args.self.now.language s a.said.items)) (sym c.in-Count.is)
-    (subst (λ s. IsReportOf (g.F.Forms.is_text c.args.forms.now) (g.O.Outside.bytes c.args.self.now.outside.now) show.Report c.in-Count.book.now c.in-Count.returns.now (names_of c.args.names) None (own_style s c.args.self.now.language) a.status a.text.items (λ s. IsSaid c.args.self.now.language s a.said.items)) c.shape_of.ensures h)
-    )
+module _ {E : Type 0} (IsText : Shape → Heading → Answer → List ℕ → Type 0) (bytes : List ℕ → Option (List ℕ)) (names : Option (List ℕ)) (form : ReportForm) (language : Language) (r : Result Answered E) where
+  abbrev Output : Report → Shape → Type 0
+  Output what shape = IfOk r (λ a. IsReported IsText bytes what names (own_style shape language) a.status a.text.items (λ s. IsSaid language s a.said.items))
+
+  -- the output of what is asked for, in the form that is
+  asked : (what q : Report) (shape : Shape) → what ≡ q → shape ≡ shape_of form → Output q shape → Output what (shape_of form)
+  asked what q shape is of out = subst (λ p. Output p (shape_of form)) (sym is) (subst (λ s. Output q s) of out)
+
+pub returns-in-Seats-clause-output : goal.returns-in-Seats-clause-output
+returns-in-Seats-clause-output g c =
+    asked (g.F.Forms.is_text c.args.forms.now) (g.O.Outside.bytes c.args.self.now.outside.now) (names_of c.args.names) c.args.form c.args.self.now.language c.report_count.result _ _ _ c.in-Seats.is c.shape_of.ensures
     c.report_count.ensures.answer
 
-pub returns-in-Stages-clause-output : goal.returns-in-Stages-clause-output
-returns-in-Stages-clause-output g c =
-    IfOk-weaker c.report_count-in-Stages.result _ _
-    (
-    λ a h.
-    subst (λ q. IsReported (g.F.Forms.is_text c.args.forms.now) (g.O.Outside.bytes c.args.self.now.outside.now) q (names_of c.args.names) (style_of c.args.form c.args.self.now.language) a.status a.text.items (λ s. IsSaid c.args.self.now.language s a.said.items)) (sym c.in-Stages.is)
-    (subst (λ s. IsReportOf (g.F.Forms.is_text c.args.forms.now) (g.O.Outside.bytes c.args.self.now.outside.now) show.Stages c.in-Stages.book.now c.in-Stages.returns.now (names_of c.args.names) None (own_style s c.args.self.now.language) a.status a.text.items (λ s. IsSaid c.args.self.now.language s a.said.items)) c.shape_of.ensures h)
-    )
-    c.report_count-in-Stages.ensures.answer
+pub returns-in-Steps-clause-output : goal.returns-in-Steps-clause-output
+returns-in-Steps-clause-output g c =
+    asked (g.F.Forms.is_text c.args.forms.now) (g.O.Outside.bytes c.args.self.now.outside.now) (names_of c.args.names) c.args.form c.args.self.now.language c.report_count-in-Steps.result _ _ _ c.in-Steps.is c.shape_of.ensures
+    c.report_count-in-Steps.ensures.answer
+
+pub returns-in-Count-clause-output : goal.returns-in-Count-clause-output
+returns-in-Count-clause-output g c =
+    asked (g.F.Forms.is_text c.args.forms.now) (g.O.Outside.bytes c.args.self.now.outside.now) (names_of c.args.names) c.args.form c.args.self.now.language c.report_count-in-Count.result _ _ _ c.in-Count.is c.shape_of.ensures
+    c.report_count-in-Count.ensures.answer
 
 pub returns-in-Short-clause-output : goal.returns-in-Short-clause-output
 returns-in-Short-clause-output g c =
-    IfOk-weaker c.report_count-in-Short.result _ _
-    (
-    λ a h.
-    subst (λ q. IsReported (g.F.Forms.is_text c.args.forms.now) (g.O.Outside.bytes c.args.self.now.outside.now) q (names_of c.args.names) (style_of c.args.form c.args.self.now.language) a.status a.text.items (λ s. IsSaid c.args.self.now.language s a.said.items)) (sym c.in-Short.is)
-    (subst (λ s. IsReportOf (g.F.Forms.is_text c.args.forms.now) (g.O.Outside.bytes c.args.self.now.outside.now) (show.Short None) c.in-Short.book.now c.in-Short.returns.now (names_of c.args.names) (names_of c.in-Short.before) (own_style s c.args.self.now.language) a.status a.text.items (λ s. IsSaid c.args.self.now.language s a.said.items)) c.shape_of.ensures h)
-    )
+    asked (g.F.Forms.is_text c.args.forms.now) (g.O.Outside.bytes c.args.self.now.outside.now) (names_of c.args.names) c.args.form c.args.self.now.language c.report_count-in-Short.result _ _ _ c.in-Short.is c.shape_of.ensures
     c.report_count-in-Short.ensures.answer
+
+pub returns-in-Stages-clause-output : goal.returns-in-Stages-clause-output
+returns-in-Stages-clause-output g c =
+    asked (g.F.Forms.is_text c.args.forms.now) (g.O.Outside.bytes c.args.self.now.outside.now) (names_of c.args.names) c.args.form c.args.self.now.language c.report_count-in-Stages.result _ _ _ c.in-Stages.is c.shape_of.ensures
+    c.report_count-in-Stages.ensures.answer
 
 pub returns-in-Compare-clause-done : goal.returns-in-Compare-clause-done
 returns-in-Compare-clause-done g c =

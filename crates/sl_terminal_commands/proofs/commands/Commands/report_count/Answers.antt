@@ -9,7 +9,7 @@ returns-in-Ok-clause-answer g c =
     IfOk-weaker c.report_read-answered.result _ _
     (
     λ a h.
-    report_of (g.F.Forms.is_text c.args.forms.now) (g.O.Outside.bytes c.args.self.now.outside.now) c.args.writing c.args.show h.0 h.1 c.args.paths c.in-Ok.read a c.in-Ok.ensures.judged
+    report_of (g.F.Forms.is_text c.args.forms.now) (g.O.Outside.bytes c.args.self.now.outside.now) c.args.writing c.args.show h.0 h.1 (record { book = c.args.book; returns = c.args.returns }) c.in-Ok.read a c.in-Ok.ensures.judged
     c.in-Ok.ensures.text h.2 h.3
     )
     c.report_read-answered.ensures

@@ -1,0 +1,3 @@
+-- What only bodies and proofs cite.
+pub mod Winners
+pub mod PartySeats
