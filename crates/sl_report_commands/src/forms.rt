@@ -33,7 +33,7 @@ pub trait Forms {
 pub struct AllForms;
 
 impl Forms for AllForms {
-    ghost is_text = { λ forms shape heading answer text. IsAnswerText shape answer text };
+    ghost is_text = { λ forms shape heading answer text. IsAnswerText shape heading answer text };
 
     fn text(
         &self,

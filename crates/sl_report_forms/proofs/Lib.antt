@@ -1,2 +1,9 @@
+pub mod JsonDepths
+pub mod JsonFilling
+pub mod JsonKeys
+pub mod Zips
+pub mod HtmlLaws
+pub mod MarkdownLaws
+pub mod ShownSteps
 mod CommaReading
 mod CommaWriting

@@ -3,4 +3,8 @@ pub mod Cells
 pub mod CellTexts
 pub mod CommaForm
 pub mod Drafts
+pub mod HtmlForm
+pub mod JsonForm
+pub mod MarkdownForm
+pub mod Shown
 pub mod Tables

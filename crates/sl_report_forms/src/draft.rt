@@ -1,8 +1,8 @@
 //! Texts and lists that are written from the begin to the end. Where memory runs out, they say so at their end.
 
-ghost use Rattle.std.specs.Prelude.{◌≡◌, [], Some, None, IfOk, IfSome, OnErr, length, nat_eq, string_bytes};
+ghost use Rattle.std.specs.Prelude.{◌≡◌, ◌++◌, ◌∷◌, [], Some, None, IfOk, IfSome, IsOkAnd, OnErr, OnOk, length, nat_eq, string_bytes};
 ghost use Rattle.std.specs.Char.{encode_utf8};
-ghost use Rattle.sl_report_forms.specs.Drafts.{Grows};
+ghost use Rattle.sl_report_forms.specs.Drafts.{Gains, Grows};
 
 use sl_base_quotients::NoMemory;
 use std::alloc::Global;
@@ -83,15 +83,27 @@ pub(crate) struct Filled<T> {
     is_whole: bool,
 }
 
+impl<T> Model for Filled<T> {
+    ghost use Rattle.std.specs.Prelude.{List, Option, Some, None, if◌then◌else◌};
+
+    ghost Value = { Option (List T) };
+
+    ghost view = { λ f. if f.is_whole then Some f.items.items else None };
+}
+
 // Adds an item that was made, unless making it found no memory.
-fn add<T: Drop>(items: &mut Vec<T>, item: Result<T, NoMemory>) -> Result<(), NoMemory> {
+fn add<T: Drop>(items: &mut Vec<T>, item: Result<T, NoMemory>) -> Result<(), NoMemory>
+    ensures { OnOk result (IsOkAnd item (λ x. items.new.items ≡ items.old.items ++ x ∷ [])) }
+{
     items.push(item?)?;
     Ok(())
 }
 
 impl<T: Drop> Filled<T> {
     /// A list without an item. Takes no memory.
-    pub(crate) fn new(alloc: Global) -> Filled<T> {
+    pub(crate) fn new(alloc: Global) -> Filled<T>
+        ensures { result ≡ Some [] }
+    {
         Filled {
             items: Vec::new(alloc),
             is_whole: true,
@@ -99,13 +111,18 @@ impl<T: Drop> Filled<T> {
     }
 
     /// Adds an item that was made, unless making it found no memory.
-    pub(crate) fn push(&mut self, item: Result<T, NoMemory>) {
+    pub(crate) fn push(&mut self, item: Result<T, NoMemory>)
+        ensures { Gains self.old self.new item }
+    {
         let is_added = add(&mut self.items, item).is_ok();
         self.is_whole = self.is_whole && is_added;
     }
 
     /// The list, if all of it found memory.
-    pub(crate) fn finished(self) -> Result<Vec<T>, NoMemory> {
+    pub(crate) fn finished(self) -> Result<Vec<T>, NoMemory>
+        ensures ok { IfOk result (λ v. self ≡ Some v.items) }
+        ensures err { OnErr result (self ≡ None) }
+    {
         if self.is_whole {
             Ok(self.items)
         } else {

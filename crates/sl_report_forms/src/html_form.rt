@@ -1,5 +1,12 @@
 //! Sheets as a page of HTML, for a screen of any width and for paper. It needs no other file.
 
+ghost use Rattle.std.specs.Prelude.{◌≡◌, ◌<◌, ◌++◌, ◌∷◌, [], ℕ, IfOk, List, MatchOption, OnOk, map, option_map, string_bytes};
+ghost use Rattle.std.specs.Char.{encode_utf8};
+ghost use Rattle.std.specs.List.{flat_map};
+ghost use Rattle.sl_report_forms.specs.Drafts.{Grows};
+ghost use Rattle.sl_report_forms.specs.HtmlForm as spec;
+ghost use Rattle.sl_report_forms.specs.Shown.{view_in};
+
 use crate::cell::Cell;
 use crate::draft::Draft;
 use crate::heading::Heading;
@@ -82,7 +89,9 @@ enum Tag {
 }
 
 // What stands for a character that HTML would read as markup.
-fn escaped(character: char) -> Option<&'static str> {
+fn escaped(character: char) -> Option<&'static str>
+    ensures { MatchOption result (spec.html_byte character ≡ character ∷ []) (λ entity. (character < 128) × (entity.now ≡ spec.html_byte character)) }
+{
     match character {
         '&' => Some("&amp;"),
         '<' => Some("&lt;"),
@@ -92,7 +101,9 @@ fn escaped(character: char) -> Option<&'static str> {
     }
 }
 
-fn put_character(out: &mut Draft, character: char) {
+fn put_character(out: &mut Draft, character: char)
+    ensures { Grows out.old out.new (spec.html_escaped (encode_utf8 character)) }
+{
     match escaped(character) {
         Some(text) => out.push_str(text),
         None => out.push(character),
@@ -100,42 +111,76 @@ fn put_character(out: &mut Draft, character: char) {
 }
 
 // Adds a text that is read as it stands.
-fn put_text(out: &mut Draft, text: &str) {
+fn put_text(out: &mut Draft, text: &str)
+    ensures { Grows out.old out.new (spec.html_escaped text.now) }
+{
     for character in text.chars() {
         put_character(out, character);
     }
 }
 
-fn put_cell(out: &mut Draft, tag: Tag, look: Look, text: &str) {
-    out.push_str(match tag {
+// How the tag of a cell begins, without its class.
+fn tag_begin(tag: Tag) -> &'static str
+    ensures { result.now ≡ spec.tag_begin tag }
+{
+    match tag {
         Tag::Title => "<th scope=\"col\"",
         Tag::First => "<th scope=\"row\"",
         Tag::Other => "<td",
-    });
-    out.push_str(match look {
+    }
+}
+
+// The class of a cell, and the end of its first tag.
+fn class_of(look: Look) -> &'static str
+    ensures { result.now ≡ spec.class_of look }
+{
+    match look {
         Look::Number => " class=\"number\">",
         Look::Hidden | Look::Text(_) => ">",
-    });
-    put_text(out, text);
-    out.push_str(match tag {
+    }
+}
+
+fn tag_end(tag: Tag) -> &'static str
+    ensures { result.now ≡ spec.tag_end tag }
+{
+    match tag {
         Tag::Title | Tag::First => "</th>",
         Tag::Other => "</td>",
-    });
+    }
+}
+
+fn put_cell(out: &mut Draft, tag: Tag, look: Look, text: &str)
+    ensures { Grows out.old out.new (spec.tag_begin tag ++ spec.class_of look ++ spec.html_escaped text.now ++ spec.tag_end tag) }
+{
+    out.push_str(tag_begin(tag));
+    out.push_str(class_of(look));
+    put_text(out, text);
+    out.push_str(tag_end(tag));
+}
+
+// The tag of the cell at a place: the first one, or another.
+fn tag_at(first: Tag, other: Tag, place: usize) -> Tag
+    ensures { result ≡ spec.tag_at first other place }
+{
+    if place == 0 { first } else { other }
 }
 
 // Adds a row of cells that have these tags, the first one and the others.
-fn put_row(out: &mut Draft, first: Tag, other: Tag, columns: &[ShownColumn], row: &[String]) {
+fn put_row(out: &mut Draft, first: Tag, other: Tag, columns: &[ShownColumn], row: &[String])
+    ensures { Grows out.old out.new (spec.html_row first other columns.now (map string_bytes row.now)) }
+{
     out.push_str("<tr>");
     for (place, column) in columns.iter().enumerate() {
         if let Some(text) = row.get(place) {
-            let tag = if place == 0 { first } else { other };
-            put_cell(out, tag, column.look, text.as_str());
+            put_cell(out, tag_at(first, other, place), column.look, text.as_str());
         }
     }
     out.push_str("</tr>\n");
 }
 
-fn put_rows(out: &mut Draft, shown: &Shown) {
+fn put_rows(out: &mut Draft, shown: &Shown)
+    ensures { Grows out.old out.new (flat_map (spec.html_row Tag.First Tag.Other shown.now.columns.items) (view_in shown.now).rows) }
+{
     for row in &shown.rows {
         put_row(
             out,
@@ -147,8 +192,10 @@ fn put_rows(out: &mut Draft, shown: &Shown) {
     }
 }
 
-fn put_table(out: &mut Draft, shown: &Shown) {
-    out.push_str("<div class=\"table\">\n<table>\n<thead>\n");
+// Adds the row of the titles.
+fn put_titles(out: &mut Draft, shown: &Shown)
+    ensures { Grows out.old out.new (spec.html_row Tag.Title Tag.Title shown.now.columns.items (view_in shown.now).titles) }
+{
     put_row(
         out,
         Tag::Title,
@@ -156,13 +203,22 @@ fn put_table(out: &mut Draft, shown: &Shown) {
         shown.columns.as_slice(),
         shown.titles.as_slice(),
     );
+}
+
+fn put_table(out: &mut Draft, shown: &Shown)
+    ensures { Grows out.old out.new (spec.html_table (view_in shown.now)) }
+{
+    out.push_str("<div class=\"table\">\n<table>\n<thead>\n");
+    put_titles(out, shown);
     out.push_str("</thead>\n<tbody>\n");
     put_rows(out, shown);
     out.push_str("</tbody>\n</table>\n</div>\n");
 }
 
 // Adds what is shown of a sheet.
-fn put_shown(out: &mut Draft, title: &str, shown: &Shown) {
+fn put_shown(out: &mut Draft, title: &str, shown: &Shown)
+    ensures { Grows out.old out.new (spec.html_section title.now (view_in shown.now)) }
+{
     out.push_str("<section>\n<h2>");
     put_text(out, title);
     out.push_str("</h2>\n");
@@ -171,7 +227,9 @@ fn put_shown(out: &mut Draft, title: &str, shown: &Shown) {
 }
 
 // Adds the sheets that are shown.
-fn put_sheets(alloc: Global, out: &mut Draft, sheets: &[Sheet]) -> Result<(), NoMemory> {
+fn put_sheets(alloc: Global, out: &mut Draft, sheets: &[Sheet]) -> Result<(), NoMemory>
+    ensures { OnOk result (Grows out.old out.new (spec.html_sections sheets.now)) }
+{
     for sheet in sheets {
         let shown = shown_of(alloc, sheet)?;
         if !shown.is_empty() {
@@ -192,7 +250,9 @@ fn title_of(language: Language, command: &'static str) -> &'static str {
 }
 
 // The law of a sheet, if it is the one that names it.
-fn law_in(sheet: &Sheet) -> Option<&str> {
+fn law_in(sheet: &Sheet) -> Option<&str>
+    ensures { option_map (λ l. l.now) result ≡ spec.law_in sheet.now }
+{
     if sheet.key != "law" {
         return None;
     }
@@ -202,40 +262,68 @@ fn law_in(sheet: &Sheet) -> Option<&str> {
     Some(law.as_str())
 }
 
+// The first law that a sheet names.
+fn law_of(sheets: &[Sheet]) -> Option<&str>
+    ensures { option_map (λ l. l.now) result ≡ spec.law_of sheets.now }
+{
+    for sheet in sheets {
+        if let Some(law) = law_in(sheet) {
+            return Some(law);
+        }
+    }
+    None
+}
+
 // Adds the title of a page, with the law if a sheet names it.
-fn put_title(out: &mut Draft, heading: &Heading<'_>, sheets: &[Sheet]) {
-    put_text(out, title_of(heading.language, heading.command));
-    if let Some(law) = sheets.iter().find_map(law_in) {
+fn put_title(out: &mut Draft, title: &str, law: Option<&str>)
+    ensures { Grows out.old out.new (spec.html_escaped (spec.with_law title.now (option_map (λ l. l.now) law.entry))) }
+{
+    put_text(out, title);
+    if let Some(law) = law {
         out.push_str(": ");
         put_text(out, law);
     }
 }
 
+fn language_code(language: Language) -> &'static str
+    ensures { result.now ≡ spec.language_code language }
+{
+    LANGUAGE.in_language(language)
+}
+
 // Adds the head of a page.
-fn put_head(out: &mut Draft, heading: &Heading<'_>, sheets: &[Sheet]) {
+fn put_head(out: &mut Draft, language: Language, title: &str, law: Option<&str>)
+    ensures { Grows out.old out.new (spec.html_head (spec.language_code language) (spec.with_law title.now (option_map (λ l. l.now) law.entry))) }
+{
     out.push_str("<!DOCTYPE html>\n<html lang=\"");
-    out.push_str(LANGUAGE.in_language(heading.language));
+    out.push_str(language_code(language));
     out.push_str("\">\n<head>\n<meta charset=\"utf-8\">\n");
     out.push_str("<meta name=\"viewport\" content=\"width=device-width, initial-scale=1\">\n");
     out.push_str("<title>");
-    put_title(out, heading, sheets);
+    put_title(out, title, law);
     out.push_str("</title>\n<style>\n");
     out.push_str(STYLE);
     out.push_str("</style>\n</head>\n");
 }
 
 // Adds the heading of a page.
-fn put_heading(out: &mut Draft, heading: &Heading<'_>, sheets: &[Sheet]) {
+fn put_heading(out: &mut Draft, title: &str, law: Option<&str>)
+    ensures { Grows out.old out.new (spec.html_heading (spec.with_law title.now (option_map (λ l. l.now) law.entry))) }
+{
     out.push_str("<h1>");
-    put_title(out, heading, sheets);
+    put_title(out, title, law);
     out.push_str("</h1>\n");
 }
 
-// Adds the line of a legal fault.
-fn put_fault(out: &mut Draft, line: &str) {
-    out.push_str("<p><code>");
-    put_text(out, line);
-    out.push_str("</code></p>\n");
+// Adds the line of a legal fault, if there is one.
+fn put_fault(out: &mut Draft, line: Option<&str>)
+    ensures { Grows out.old out.new (spec.html_fault (option_map (λ l. l.now) line.entry)) }
+{
+    if let Some(line) = line {
+        out.push_str("<p><code>");
+        put_text(out, line);
+        out.push_str("</code></p>\n");
+    }
 }
 
 /// Sheets as a page of HTML, under the line of a legal fault, without its end, if there is one. The same sheets and columns are shown as in text, and
@@ -245,14 +333,16 @@ pub fn html_text(
     heading: &Heading<'_>,
     line: Option<&str>,
     sheets: &[Sheet],
-) -> Result<String, NoMemory> {
+) -> Result<String, NoMemory>
+    ensures { IfOk result (λ t. (title : List ℕ) × (string_bytes t ≡ spec.html_page heading.now.language title (option_map (λ l. l.now) line.entry) sheets.now)) }
+{
+    let title = title_of(heading.language, heading.command);
+    let law = law_of(sheets);
     let mut out = Draft::new(alloc);
-    put_head(&mut out, heading, sheets);
+    put_head(&mut out, heading.language, title, law);
     out.push_str("<body>\n");
-    put_heading(&mut out, heading, sheets);
-    if let Some(line) = line {
-        put_fault(&mut out, line);
-    }
+    put_heading(&mut out, title, law);
+    put_fault(&mut out, line);
     let put = put_sheets(alloc, &mut out, sheets);
     out.push_str("</body>\n</html>\n");
     put.and(out.finished())

@@ -1,5 +1,12 @@
 //! Sheets as JSON: an object for each row, in one array for each key.
 
+ghost use Rattle.std.specs.Prelude.{◌≡◌, ◌≤◌, IfOk, map, option_map, string_bytes};
+ghost use Rattle.serde_json.specs.Data.{depth, string};
+ghost use Rattle.serde_json.specs.Read.{max_depth};
+ghost use Rattle.serde_json.specs.View.{number_view, view};
+ghost use Rattle.sl_report_forms.specs.JsonForm as spec;
+ghost use Rattle.sl_report_forms.specs.JsonForm.{Adds, IsJsonText, IsLineOf, array_of, change, sheet_rows, table_value, tables_value};
+
 use crate::cell::Cell;
 use crate::draft::Filled;
 use crate::heading::Heading;
@@ -10,7 +17,9 @@ use serde_json::{Number, Value};
 use sl_base_quotients::NoMemory;
 use std::alloc::Global;
 
-fn names_value(alloc: Global, names: &[String]) -> Result<Value, NoMemory> {
+fn names_value(alloc: Global, names: &[String]) -> Result<Value, NoMemory>
+    ensures { IfOk result (λ v. view v ≡ array_of (map (λ name. string (string_bytes name)) names.now)) }
+{
     let mut values = Filled::new(alloc);
     for name in names {
         values.push(text_value(alloc, name.as_str()));
@@ -19,7 +28,9 @@ fn names_value(alloc: Global, names: &[String]) -> Result<Value, NoMemory> {
 }
 
 // The difference of two numbers, none of which has more than 63 bits.
-fn change_number(number: u64, before: u64) -> Number {
+fn change_number(number: u64, before: u64) -> Number
+    ensures { number_view result ≡ change number before }
+{
     if number < before {
         Number::from(-i64::try_from(before - number).unwrap_or(i64::MAX))
     } else {
@@ -27,7 +38,9 @@ fn change_number(number: u64, before: u64) -> Number {
     }
 }
 
-fn cell_value(alloc: Global, cell: &Cell) -> Result<Value, NoMemory> {
+fn cell_value(alloc: Global, cell: &Cell) -> Result<Value, NoMemory>
+    ensures { IfOk result (λ v. view v ≡ spec.cell_value cell.now) }
+{
     match cell {
         Cell::Empty => Ok(Value::Null),
         Cell::Text(text) => text_value(alloc, text.as_str()),
@@ -39,7 +52,10 @@ fn cell_value(alloc: Global, cell: &Cell) -> Result<Value, NoMemory> {
     }
 }
 
-fn row_value(alloc: Global, heads: &[Head], row: &[Cell]) -> Result<Value, NoMemory> {
+#[tactic(auto, using(crate::proofs::Zips::zip_nil))]
+fn row_value(alloc: Global, heads: &[Head], row: &[Cell]) -> Result<Value, NoMemory>
+    ensures { IfOk result (λ v. view v ≡ spec.row_value heads.now row.now) }
+{
     let mut members = Members::new(alloc);
     for (place, cell) in row.iter().enumerate() {
         if let Some(head) = heads.get(place) {
@@ -50,14 +66,18 @@ fn row_value(alloc: Global, heads: &[Head], row: &[Cell]) -> Result<Value, NoMem
 }
 
 // Adds the rows of a sheet.
-fn push_rows(alloc: Global, rows: &mut Filled<Value>, sheet: &Sheet) {
+fn push_rows(alloc: Global, rows: &mut Filled<Value>, sheet: &Sheet)
+    ensures { Adds rows.old rows.new (sheet_rows sheet.now) }
+{
     for row in &sheet.rows {
         rows.push(row_value(alloc, sheet.heads.as_slice(), row.as_slice()));
     }
 }
 
 // The rows of all sheets of a key.
-fn rows_of(alloc: Global, sheets: &[Sheet], key: &str) -> Result<Value, NoMemory> {
+fn rows_of(alloc: Global, sheets: &[Sheet], key: &str) -> Result<Value, NoMemory>
+    ensures { IfOk result (λ v. view v ≡ table_value sheets.now key.now) }
+{
     let mut rows = Filled::new(alloc);
     for sheet in sheets {
         if sheet.key == key {
@@ -68,7 +88,9 @@ fn rows_of(alloc: Global, sheets: &[Sheet], key: &str) -> Result<Value, NoMemory
 }
 
 // The tables, by their keys.
-fn tables(alloc: Global, sheets: &[Sheet]) -> Result<Value, NoMemory> {
+fn tables(alloc: Global, sheets: &[Sheet]) -> Result<Value, NoMemory>
+    ensures { IfOk result (λ v. view v ≡ tables_value sheets.now) }
+{
     let mut tables = Members::new(alloc);
     for sheet in sheets {
         if !tables.has(sheet.key) {
@@ -79,7 +101,9 @@ fn tables(alloc: Global, sheets: &[Sheet]) -> Result<Value, NoMemory> {
 }
 
 // The text of a value, as a line.
-fn line_of(alloc: Global, value: &Value) -> Result<String, NoMemory> {
+fn line_of(alloc: Global, value: &Value) -> Result<String, NoMemory>
+    ensures { IfOk result (λ t. depth (view value.now) ≤ max_depth → IsLineOf (view value.now) (string_bytes t)) }
+{
     let mut text = value.to_string(alloc)?;
     text.push('\n')?;
     Ok(text)
@@ -93,7 +117,10 @@ pub fn json_text(
     status: u8,
     line: Option<&str>,
     sheets: &[Sheet],
-) -> Result<String, NoMemory> {
+) -> Result<String, NoMemory>
+    ensures { IfOk result (λ t.
+        IsJsonText heading.now status (option_map (λ l. l.now) line.entry) sheets.now (string_bytes t)) }
+{
     let mut members = Members::new(alloc);
     put_heading(alloc, &mut members, heading, status, line);
     members.put("tables", tables(alloc, sheets));

@@ -1,5 +1,11 @@
 //! What JSON says in addition to its tables: the versions, the command and how it ended, its inputs, and why there is no table.
 
+ghost use Rattle.std.specs.Prelude.{◌≡◌, IfOk, map, option_map};
+ghost use Rattle.serde_json.specs.Data.{Data, string};
+ghost use Rattle.serde_json.specs.View.{view};
+ghost use Rattle.sl_report_forms.specs.JsonForm as spec;
+ghost use Rattle.sl_report_forms.specs.JsonForm.{Explains, MaybeExplains, NestsWithin, Puts, array_of, heading_members, hex};
+
 use crate::draft::{Draft, Filled};
 use crate::heading::{DigestedInput, Heading, Told};
 use crate::json_values::{Members, array_value, bytes_value};
@@ -14,16 +20,20 @@ const SCHEMA: usize = 2;
 static DIGITS: &[u8; 16] = b"0123456789abcdef";
 
 // Some bytes in hexadecimal digits.
-fn digits_value(alloc: Global, bytes: &[u8]) -> Result<Value, NoMemory> {
+fn digits_value(alloc: Global, bytes: &[u8]) -> Result<Value, NoMemory>
+    ensures { IfOk result (λ v. view v ≡ string (hex bytes.now)) }
+{
     let mut digits = Draft::new(alloc);
     for byte in bytes {
         digits.push(char::from(DIGITS[usize::from(*byte >> 4)]));
         digits.push(char::from(DIGITS[usize::from(*byte & 15)]));
     }
-    digits.finished().map(Value::String)
+    Ok(Value::String(digits.finished()?))
 }
 
-fn input_value(alloc: Global, input: &DigestedInput) -> Result<Value, NoMemory> {
+fn input_value(alloc: Global, input: &DigestedInput) -> Result<Value, NoMemory>
+    ensures { IfOk result (λ v. view v ≡ spec.input_value input.now) }
+{
     let mut members = Members::new(alloc);
     members.put_text("input", Some(input.input));
     if let Some(word) = &input.word {
@@ -33,7 +43,9 @@ fn input_value(alloc: Global, input: &DigestedInput) -> Result<Value, NoMemory> 
     members.finished()
 }
 
-fn inputs_value(alloc: Global, inputs: &[DigestedInput]) -> Result<Value, NoMemory> {
+fn inputs_value(alloc: Global, inputs: &[DigestedInput]) -> Result<Value, NoMemory>
+    ensures { IfOk result (λ v. view v ≡ array_of (map spec.input_value inputs.now)) }
+{
     let mut values = Filled::new(alloc);
     for input in inputs {
         values.push(input_value(alloc, input));
@@ -42,7 +54,9 @@ fn inputs_value(alloc: Global, inputs: &[DigestedInput]) -> Result<Value, NoMemo
 }
 
 // A place in an input: its line and its column, both from 1, and the offsets of its bytes.
-fn place_value(alloc: Global, bytes: &[u8], span: Span) -> Result<Value, NoMemory> {
+fn place_value(alloc: Global, bytes: &[u8], span: Span) -> Result<Value, NoMemory>
+    ensures { IfOk result (NestsWithin 1) }
+{
     let line = line_at(bytes, span.start);
     let mut members = Members::new(alloc);
     members.put_number("line", line.number);
@@ -52,7 +66,9 @@ fn place_value(alloc: Global, bytes: &[u8], span: Span) -> Result<Value, NoMemor
     members.finished()
 }
 
-fn maybe_place(alloc: Global, told: Told<'_>) -> Result<Value, NoMemory> {
+fn maybe_place(alloc: Global, told: Told<'_>) -> Result<Value, NoMemory>
+    ensures { IfOk result (NestsWithin 1) }
+{
     match told.explanation.span() {
         Some(span) => place_value(alloc, told.bytes, span),
         None => Ok(Value::Null),
@@ -60,7 +76,10 @@ fn maybe_place(alloc: Global, told: Told<'_>) -> Result<Value, NoMemory> {
 }
 
 // The sentences on what to do.
-fn help_value(alloc: Global, remedies: &[Remedy]) -> Result<Value, NoMemory> {
+#[tactic(auto, using(crate::proofs::JsonDepths::made_within))]
+fn help_value(alloc: Global, remedies: &[Remedy]) -> Result<Value, NoMemory>
+    ensures { IfOk result (NestsWithin 1) }
+{
     let mut values = Filled::new(alloc);
     for remedy in remedies {
         if let Remedy::Sentence(text) = remedy {
@@ -71,7 +90,10 @@ fn help_value(alloc: Global, remedies: &[Remedy]) -> Result<Value, NoMemory> {
 }
 
 // The records that may be added to the returns.
-fn records_value(alloc: Global, remedies: &[Remedy]) -> Result<Value, NoMemory> {
+#[tactic(auto, using(crate::proofs::JsonDepths::made_within))]
+fn records_value(alloc: Global, remedies: &[Remedy]) -> Result<Value, NoMemory>
+    ensures { IfOk result (NestsWithin 1) }
+{
     let mut values = Filled::new(alloc);
     for remedy in remedies {
         if let Remedy::Record(text) = remedy {
@@ -82,7 +104,10 @@ fn records_value(alloc: Global, remedies: &[Remedy]) -> Result<Value, NoMemory> 
 }
 
 // What else there is to say of the input.
-fn more_value(alloc: Global, lines: &[Vec<u8>]) -> Result<Value, NoMemory> {
+#[tactic(auto, using(crate::proofs::JsonDepths::made_within))]
+fn more_value(alloc: Global, lines: &[Vec<u8>]) -> Result<Value, NoMemory>
+    ensures { IfOk result (NestsWithin 1) }
+{
     let mut values = Filled::new(alloc);
     for line in lines {
         values.push(bytes_value(alloc, line.as_slice()));
@@ -90,7 +115,9 @@ fn more_value(alloc: Global, lines: &[Vec<u8>]) -> Result<Value, NoMemory> {
     array_value(values)
 }
 
-fn told_value(alloc: Global, told: Told<'_>) -> Result<Value, NoMemory> {
+fn told_value(alloc: Global, told: Told<'_>) -> Result<Value, NoMemory>
+    ensures { IfOk result (λ v. Explains told.entry (view v)) }
+{
     let explanation = told.explanation;
     let remedies = explanation.remedies();
     let mut members = Members::new(alloc);
@@ -104,7 +131,9 @@ fn told_value(alloc: Global, told: Told<'_>) -> Result<Value, NoMemory> {
     members.finished()
 }
 
-fn maybe_told(alloc: Global, told: Option<Told<'_>>) -> Result<Value, NoMemory> {
+fn maybe_told(alloc: Global, told: Option<Told<'_>>) -> Result<Value, NoMemory>
+    ensures { IfOk result (λ v. MaybeExplains told.entry (view v)) }
+{
     match told {
         Some(told) => told_value(alloc, told),
         None => Ok(Value::Null),
@@ -118,7 +147,10 @@ pub(crate) fn put_heading(
     heading: &Heading<'_>,
     status: u8,
     line: Option<&str>,
-) {
+)
+    ensures { (why : Data) × MaybeExplains heading.now.told why
+        × Puts members.old members.new (heading_members heading.now status (option_map (λ l. l.now) line.entry) why) }
+{
     members.put_number("schema", SCHEMA);
     members.put_text("program", Some(VERSION));
     members.put_text("command", Some(heading.command));

@@ -1,5 +1,8 @@
 //! What a person sees of a sheet, as texts: the columns that are not hidden, and in which a row has something.
 
+ghost use Rattle.std.specs.Prelude.{◌≡◌, ◌==◌, IfOk, length, map, slice_get, string_bytes};
+ghost use Rattle.sl_report_forms.specs.Shown as spec;
+
 use crate::cell::Cell;
 use crate::draft::{Filled, copied};
 use crate::sheet::{Head, Look, Sheet};
@@ -21,12 +24,16 @@ pub(crate) struct Shown {
     pub(crate) rows: Vec<Vec<String>>,
 }
 
-fn is_hidden(look: Look) -> bool {
+fn is_hidden(look: Look) -> bool
+    ensures { result ≡ spec.is_hidden look }
+{
     matches!(look, Look::Hidden)
 }
 
 // Whether a row has something at a place.
-fn is_filled(row: &[Cell], place: usize) -> bool {
+fn is_filled(row: &[Cell], place: usize) -> bool
+    ensures { result ≡ spec.is_filled (slice_get row.now place) }
+{
     match row.get(place) {
         Some(Cell::Empty) | None => false,
         Some(_) => true,
@@ -34,28 +41,39 @@ fn is_filled(row: &[Cell], place: usize) -> bool {
 }
 
 // Whether a row of a sheet has something at a place.
-fn has_text(sheet: &Sheet, place: usize) -> bool {
-    for row in &sheet.rows {
-        if is_filled(row.as_slice(), place) {
-            return true;
-        }
-    }
-    false
+fn has_text(sheet: &Sheet, place: usize) -> bool
+    ensures { result ≡ spec.has_text sheet.now place }
+{
+    sheet
+        .rows
+        .iter()
+        .any(|row| is_filled(row.as_slice(), place))
 }
 
-// The columns that are shown: those that are not hidden, and in which a row has something.
-fn columns(alloc: Global, sheet: &Sheet) -> Result<Vec<ShownColumn>, NoMemory> {
+// Whether a column is shown: one that is not hidden, and in which a row has something.
+fn is_shown(sheet: &Sheet, column: ShownColumn) -> bool
+    ensures { result ≡ spec.is_shown sheet.now column }
+{
+    !is_hidden(column.look) && has_text(sheet, column.place)
+}
+
+fn columns(alloc: Global, sheet: &Sheet) -> Result<Vec<ShownColumn>, NoMemory>
+    ensures { IfOk result (λ v. v.items ≡ spec.shown_columns sheet.now) }
+{
     let mut columns = Filled::new(alloc);
     for (place, head) in sheet.heads.iter().enumerate() {
         let look = head.look;
-        if !is_hidden(look) && has_text(sheet, place) {
-            columns.push(Ok(ShownColumn { place, look }));
+        let column = ShownColumn { place, look };
+        if is_shown(sheet, column) {
+            columns.push(Ok(column));
         }
     }
     columns.finished()
 }
 
-fn titles(alloc: Global, heads: &[Head], columns: &[ShownColumn]) -> Result<Vec<String>, NoMemory> {
+fn titles(alloc: Global, heads: &[Head], columns: &[ShownColumn]) -> Result<Vec<String>, NoMemory>
+    ensures { IfOk result (λ v. map string_bytes v.items ≡ spec.titles_in columns.now heads.now) }
+{
     let mut titles = Filled::new(alloc);
     for column in columns {
         if let Some(head) = heads.get(column.place) {
@@ -66,11 +84,9 @@ fn titles(alloc: Global, heads: &[Head], columns: &[ShownColumn]) -> Result<Vec<
 }
 
 // The texts of a row in these columns.
-fn shown_row(
-    alloc: Global,
-    row: &[Cell],
-    columns: &[ShownColumn],
-) -> Result<Vec<String>, NoMemory> {
+fn shown_row(alloc: Global, row: &[Cell], columns: &[ShownColumn]) -> Result<Vec<String>, NoMemory>
+    ensures { IfOk result (λ v. map string_bytes v.items ≡ spec.texts_in columns.now row.now) }
+{
     let mut texts = Filled::new(alloc);
     for column in columns {
         if let Some(cell) = row.get(column.place) {
@@ -84,7 +100,9 @@ fn shown_rows(
     alloc: Global,
     sheet: &Sheet,
     columns: &[ShownColumn],
-) -> Result<Vec<Vec<String>>, NoMemory> {
+) -> Result<Vec<Vec<String>>, NoMemory>
+    ensures { IfOk result (λ v. map (λ r. map string_bytes r.items) v.items ≡ map (λ r. spec.texts_in columns.now r.items) sheet.now.rows.items) }
+{
     let mut rows = Filled::new(alloc);
     for row in &sheet.rows {
         rows.push(shown_row(alloc, row.as_slice(), columns));
@@ -94,13 +112,17 @@ fn shown_rows(
 
 impl Shown {
     /// Whether no column is shown.
-    pub(crate) fn is_empty(&self) -> bool {
+    pub(crate) fn is_empty(&self) -> bool
+        ensures { result ≡ (length self.now.columns.items == 0) }
+    {
         self.columns.is_empty()
     }
 }
 
 /// What is shown of a sheet: nothing where no row has something in a column that is not hidden.
-pub(crate) fn shown_of(alloc: Global, sheet: &Sheet) -> Result<Shown, NoMemory> {
+pub(crate) fn shown_of(alloc: Global, sheet: &Sheet) -> Result<Shown, NoMemory>
+    ensures { IfOk result (λ v. spec.view_in v ≡ spec.view_of sheet.now) }
+{
     let columns = columns(alloc, sheet)?;
     let titles = titles(alloc, sheet.heads.as_slice(), columns.as_slice())?;
     let rows = shown_rows(alloc, sheet, columns.as_slice())?;

@@ -1,9 +1,15 @@
 -- The answers of the commands that report: tables, or a refusal; and their texts (docs/report.md).
-use Rattle.std.specs.Prelude.{List, [], map, ◌≡◌, ℕ}
+use Rattle.std.specs.Prelude.{List, Option, None, Some, [], map, ◌≡◌, ◌++◌, ◌∷◌, ℕ}
+use Rattle.std.specs.Str.{IsUtf8}
 use Rattle.sl_count_inputs.specs.declared.status.Status.TheVariants.{Done, Refused}
+use Rattle.sl_count_inputs.specs.Statuses.{status_number}
 use Rattle.sl_count_inputs.specs.declared.status.Status.{Status}
 use Rattle.sl_report_forms.specs.CommaForm.{IsCommaText}
+use Rattle.sl_report_forms.specs.HtmlForm.{html_page}
+use Rattle.sl_report_forms.specs.JsonForm.{IsJsonText}
+use Rattle.sl_report_forms.specs.MarkdownForm.{markdown_of}
 use Rattle.sl_report_forms.specs.Tables.{Table, table_of}
+use Rattle.sl_report_forms.specs.declared.heading.Heading.{Heading}
 use Rattle.sl_report_tables.specs.declared.answer.Answer.{Answer}
 use Rattle.sl_report_tables.specs.declared.answer.Shape.TheVariants as shape
 use Rattle.sl_report_tables.specs.declared.answer.Shape.{Shape}
@@ -26,12 +32,24 @@ IsRefusedBy line a = IsRefusal a × (a.line.items ≡ line)
 
 -- ---- texts
 
--- the text of an answer with such a status: in CSV of its sheets, and of a refusal the line. Of the other forms nothing is said
-abbrev pub IsTextOf : Shape → Status → Answer → List ℕ → Type 0
-IsTextOf shape.Json status a text = Unit {0}
-IsTextOf shape Refused a text = text ≡ a.line.items
-IsTextOf shape.Comma status a text = IsCommaText a.sheets.items text
-IsTextOf shape status a text = Unit {0}
+-- a line in UTF-8, without its end; nothing of one that has none, as where there is no line
+abbrev pub IsToldLine : List ℕ → Option (List ℕ) → Type 0
+IsToldLine line (Some told) = line ≡ told ++ 10 ∷ []
+IsToldLine line None = (told : List ℕ) → line ≡ told ++ 10 ∷ [] → ¬ IsUtf8 told
 
-abbrev pub IsAnswerText : Shape → Answer → List ℕ → Type 0
-IsAnswerText shape a text = IsTextOf shape a.status a text
+-- what holds of the line of an answer without its end
+abbrev pub OfLine : (Option (List ℕ) → Type 0) → Answer → Type 0
+OfLine Is a = (line : Option (List ℕ)) × IsToldLine a.line.items line × Is line
+
+-- the text of an answer with such a status: in JSON its tables; else of a refusal the line, and of others the sheets, in Markdown and in HTML under their
+-- line. Of aligned text nothing is said, nor of the title that HTML has for a command
+abbrev pub IsTextOf : Shape → Heading → Status → Answer → List ℕ → Type 0
+IsTextOf shape.Json heading status a text = OfLine (λ line. IsJsonText heading (status_number status) line a.sheets.items text) a
+IsTextOf shape heading Refused a text = text ≡ a.line.items
+IsTextOf shape.Comma heading status a text = IsCommaText a.sheets.items text
+IsTextOf shape.Markdown heading status a text = OfLine (λ line. text ≡ markdown_of line a.sheets.items) a
+IsTextOf shape.Html heading status a text = OfLine (λ line. (title : List ℕ) × (text ≡ html_page heading.language title line a.sheets.items)) a
+IsTextOf shape.Text heading status a text = Unit {0}
+
+abbrev pub IsAnswerText : Shape → Heading → Answer → List ℕ → Type 0
+IsAnswerText shape heading a text = IsTextOf shape heading a.status a text

@@ -1,7 +1,11 @@
 //! What a command that reports answers: sheets with a status, and their text in one of the forms.
 
-ghost use Rattle.std.specs.Prelude.{◌≡◌, [], IfOk};
-ghost use Rattle.sl_report_tables.specs.Answers.{IsAnswerText, IsRefusal, IsRefusedBy};
+ghost use Rattle.std.specs.Prelude.{◌≡◌, [], ℕ, IfOk, List, option_map};
+ghost use Rattle.sl_count_inputs.specs.Statuses.{status_number};
+ghost use Rattle.sl_report_forms.specs.HtmlForm.{html_page};
+ghost use Rattle.sl_report_forms.specs.JsonForm.{IsJsonText};
+ghost use Rattle.sl_report_forms.specs.MarkdownForm.{markdown_of};
+ghost use Rattle.sl_report_tables.specs.Answers.{IsAnswerText, IsRefusal, IsRefusedBy, IsToldLine, OfLine};
 
 use sl_base_quotients::NoMemory;
 use sl_count_inputs::Status;
@@ -36,10 +40,12 @@ pub struct Answer {
     pub sheets: Vec<Sheet>,
 }
 
-// A line without its end, if it has bytes.
-fn without_end(line: &[u8]) -> Option<&str> {
-    let line = std::str::from_utf8(line).unwrap_or("");
-    line.strip_suffix('\n')
+// A line without its end, if it has one.
+fn without_end(line: &[u8]) -> Option<&str>
+    ensures { IsToldLine line.now (option_map (λ l. l.now) result) }
+{
+    let line = line.strip_suffix(b"\n")?;
+    std::str::from_utf8(line).ok()
 }
 
 impl Answer {
@@ -111,17 +117,23 @@ impl Answer {
         Ok(text)
     }
 
-    fn markdown(&self, alloc: Global) -> Result<Vec<u8>, NoMemory> {
+    fn markdown(&self, alloc: Global) -> Result<Vec<u8>, NoMemory>
+        ensures { IfOk result (λ text. OfLine (λ line. text.items ≡ markdown_of line self.now.sheets.items) self.now) }
+    {
         let line = without_end(self.line.as_slice());
         Ok(markdown_text(alloc, line, self.sheets.as_slice())?.into_bytes())
     }
 
-    fn html(&self, alloc: Global, heading: &Heading<'_>) -> Result<Vec<u8>, NoMemory> {
+    fn html(&self, alloc: Global, heading: &Heading<'_>) -> Result<Vec<u8>, NoMemory>
+        ensures { IfOk result (λ text. OfLine (λ line. (title : List ℕ) × (text.items ≡ html_page heading.now.language title line self.now.sheets.items)) self.now) }
+    {
         let line = without_end(self.line.as_slice());
         Ok(html_text(alloc, heading, line, self.sheets.as_slice())?.into_bytes())
     }
 
-    fn json(&self, alloc: Global, heading: &Heading<'_>) -> Result<Vec<u8>, NoMemory> {
+    fn json(&self, alloc: Global, heading: &Heading<'_>) -> Result<Vec<u8>, NoMemory>
+        ensures { IfOk result (λ text. OfLine (λ line. IsJsonText heading.now (status_number self.now.status) line self.now.sheets.items text.items) self.now) }
+    {
         let line = without_end(self.line.as_slice());
         let sheets = self.sheets.as_slice();
         Ok(json_text(alloc, heading, self.status.number(), line, sheets)?.into_bytes())
@@ -135,7 +147,7 @@ impl Answer {
         shape: Shape,
         heading: &Heading<'_>,
     ) -> Result<Vec<u8>, NoMemory>
-        ensures { IfOk result (λ text. IsAnswerText shape self.now text.items) }
+        ensures { IfOk result (λ text. IsAnswerText shape heading.now self.now text.items) }
     {
         match (shape, self.status) {
             (Shape::Json, _) => self.json(alloc, heading),

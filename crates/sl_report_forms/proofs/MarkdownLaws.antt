@@ -1,0 +1,122 @@
+-- Escaped Markdown: what is written of a character, and that what is escaped reads back.
+use Rattle.std.proofs.Common.{◌≡◌, ◌∙◌, ◌⊎◌, ◌<◌, ◌≤◌, ◌+◌, ℕ, true, false, List, [], ◌∷◌, ◌++◌, Option, Some, None, append_assoc, filter, get_or, length, map, string_bytes, subst, take, ap, arith, refl, sym, inl, inr, if◌then◌else◌}
+use Rattle.std.specs.Prelude.{◌==◌, option_map}
+use Rattle.std.specs.Char.{encode_utf8}
+use Rattle.std.specs.Io.KnownBytes.{append_known}
+use Rattle.std.specs.List.{flat_map}
+use Rattle.std.proofs.lemmas.Bool.{cases_Bool, eqb-true, or_cases}
+use Rattle.std.proofs.lemmas.Bool.Decides.{nat_tests}
+use Rattle.std.proofs.lemmas.List.{append-nil, map_push}
+use Rattle.std.proofs.lemmas.List.Concat.{flat_map-append}
+use Rattle.std.proofs.lemmas.Str.{encode_ascii}
+use Rattle.sl_report_forms.specs.Drafts.{Grows}
+use Rattle.sl_report_forms.specs.MarkdownForm.{Becomes, is_line_end, is_mark, joined, markdown_block, markdown_blocks, markdown_byte, markdown_escaped, on_one_line, parted, read_after, with_blocks}
+use Rattle.sl_report_forms.specs.Shown.{has_view, view_of}
+use Rattle.sl_report_forms.specs.declared.sheet.Sheet.{Sheet}
+use Rattle.sl_report_forms.proofs.ShownSteps.{ascii_char, plain_char, sheets_next}
+
+no_mark : (b : ℕ) → 128 ≤ b → is_mark b ≡ false
+no_mark b high = grind (arith, nat_tests)
+
+no_end : (b : ℕ) → 128 ≤ b → is_line_end b ≡ false
+no_end b high = grind (arith, nat_tests)
+
+pub markdown_plain : (b : ℕ) → 128 ≤ b → markdown_byte b ≡ b ∷ []
+markdown_plain b high = ap (λ t. if t then 92 ∷ b ∷ [] else on_one_line b ∷ []) (no_mark b high) ∙ ap (λ t. (if t then 32 else b) ∷ []) (no_end b high)
+
+unmarked : (c : ℕ) → is_mark c ≡ false → markdown_byte c ≡ on_one_line c ∷ []
+unmarked c plain = ap (λ t. if t then 92 ∷ c ∷ [] else on_one_line c ∷ []) plain
+
+-- an end of a line is ASCII
+low_end : (c : ℕ) → is_line_end c ≡ true → c < 128
+low_end c marked = elim (or_cases (c == 10) (c == 13) marked) [ inl h ↦ let e : c ≡ 10 = eqb-true c 10 h in omega arith | inr h ↦ let e : c ≡ 13 = eqb-true c 13 h in omega arith ]
+
+-- what is written of a character that is no mark
+pub markdown_character : (c : ℕ) → is_mark c ≡ false → markdown_escaped (encode_utf8 c) ≡ encode_utf8 (on_one_line c)
+markdown_character c plain = go (cases_Bool (is_line_end c)) where
+  go : (is_line_end c ≡ true) ⊎ (is_line_end c ≡ false) → markdown_escaped (encode_utf8 c) ≡ encode_utf8 (on_one_line c)
+  go (inl marked) =
+      let e : on_one_line c ≡ 32 = ap (λ t. if t then 32 else c) marked in
+      ascii_char markdown_byte markdown_plain c (low_end c marked) ∙ unmarked c plain ∙ ap (λ x. x ∷ []) e ∙ sym (ap encode_utf8 e ∙ encode_ascii 32 (omega arith))
+  go (inr other) =
+      let e : on_one_line c ≡ c = ap (λ t. if t then 32 else c) other in
+      plain_char markdown_byte markdown_plain c (unmarked c plain ∙ ap (λ x. x ∷ []) e) ∙ sym (ap encode_utf8 e)
+
+-- a mark ends no line, and a backslash is a mark
+mark_stays : (c : ℕ) → is_mark c ≡ true → on_one_line c ≡ c
+mark_stays c marked = elim (cases_Bool (is_line_end c)) [
+  | inl h ↦ elim (or_cases (c == 10) (c == 13) h) [
+    | inl e ↦ absurd (differ (sym (ap is_mark (eqb-true c 10 e)) ∙ marked))
+    | inr e ↦ absurd (differ (sym (ap is_mark (eqb-true c 13 e)) ∙ marked))
+  ]
+  | inr h ↦ ap (λ t. if t then 32 else c) h
+]
+  where
+    differ : false ≡ true → ⊥
+    differ e = cc
+
+no_backslash : (c : ℕ) → is_mark c ≡ false → (92 == on_one_line c) ≡ false
+no_backslash c plain = grind (arith, nat_tests)
+
+reads_back_at : (c : ℕ) (rest : List ℕ) → read_after false (markdown_byte c ++ rest) ≡ on_one_line c ∷ read_after false rest
+reads_back_at c rest = go (cases_Bool (is_mark c)) where
+  go : (is_mark c ≡ true) ⊎ (is_mark c ≡ false) → read_after false (markdown_byte c ++ rest) ≡ on_one_line c ∷ read_after false rest
+  go (inl marked) =
+      ap (λ t. read_after false ((if t then 92 ∷ c ∷ [] else on_one_line c ∷ []) ++ rest)) marked ∙ ap (λ x. x ∷ read_after false rest) (sym (mark_stays c marked))
+  go (inr plain) =
+      ap (λ t. read_after false ((if t then 92 ∷ c ∷ [] else on_one_line c ∷ []) ++ rest)) plain
+      ∙ ap (λ t. if t then read_after true rest else on_one_line c ∷ read_after false rest) (no_backslash c plain)
+
+-- what is escaped reads back, where the ends of lines are blanks
+pub reads_back : (text : List ℕ) → read_after false (markdown_escaped text) ≡ map on_one_line text
+reads_back [] = refl
+reads_back (c ∷ text) = reads_back_at c (markdown_escaped text) ∙ ap (λ xs. on_one_line c ∷ xs) (reads_back text)
+
+-- ---- blocks
+joined_more : (b : List ℕ) (bs : List (List ℕ)) (x : List ℕ) → joined (joined (b ∷ bs) ∷ x ∷ []) ≡ joined (b ∷ (bs ++ x ∷ []))
+joined_more b bs x =
+    append_assoc b (flat_map (λ y. 10 ∷ y) bs) (flat_map (λ y. 10 ∷ y) (x ∷ []))
+    ∙ ap (λ zs. b ++ zs) (sym (flat_map-append (λ y. 10 ∷ y) bs (x ∷ [])))
+
+blocks_more : (ss : List Sheet) (x text : List ℕ) → with_blocks (x ∷ []) (with_blocks (map (λ s. markdown_block (string_bytes s.title) (view_of s)) ss) text)
+    ≡ with_blocks (map (λ s. markdown_block (string_bytes s.title) (view_of s)) ss ++ x ∷ []) text
+blocks_more [] x [] = refl
+blocks_more [] x (c ∷ text) = ap (λ t. joined ((c ∷ t) ∷ x ∷ [])) (append-nil text)
+blocks_more (s ∷ ss) x [] = joined_more (markdown_block (string_bytes s.title) (view_of s)) (map (λ s. markdown_block (string_bytes s.title) (view_of s)) ss) x
+blocks_more (s ∷ ss) x (c ∷ text) = joined_more (c ∷ text) (map (λ s. markdown_block (string_bytes s.title) (view_of s)) (s ∷ ss)) x
+
+becomes_more : (a b c : Option (List ℕ)) (f g h : List ℕ → List ℕ) → ((text : List ℕ) → g (f text) ≡ h text) → Becomes a b f → Becomes b c g → Becomes a c h
+becomes_more a b c f g h same p (inr q) = inr q
+becomes_more a b c f g h same (inr p) (inl q) = inr (q ∙ ap (option_map g) p)
+becomes_more a b c f g h same (inl p) (inl q) = inl (q ∙ ap (option_map g) p ∙ both a) where
+  both : (o : Option (List ℕ)) → option_map g (option_map f o) ≡ option_map h o
+  both None = refl
+  both (Some text) = ap Some (same text)
+
+-- one sheet more, that is shown
+pub sheet_more : (sheets : List Sheet) (i : ℕ) (s : Sheet) (a b c : Option (List ℕ)) → i < length sheets → s ≡ get_or sheets i s → has_view s ≡ true →
+    Becomes a b (with_blocks (markdown_blocks (take i sheets))) → Becomes b c (with_blocks (markdown_block (string_bytes s.title) (view_of s) ∷ [])) →
+    Becomes a c (with_blocks (markdown_blocks (take (i + 1) sheets)))
+sheet_more sheets i s a b c within is seen so_far more =
+    becomes_more a b c _ _ _
+    (λ text. blocks_more (filter has_view (take i sheets)) (markdown_block (string_bytes s.title) (view_of s)) text
+    ∙ ap (λ bs. with_blocks bs text) (sym (
+    ap (map (λ s. markdown_block (string_bytes s.title) (view_of s))) (sheets_next sheets i s true within is seen)
+    ∙ map_push (λ s. markdown_block (string_bytes s.title) (view_of s)) (filter has_view (take i sheets)) s)))
+    so_far more
+
+pub sheet_same : (sheets : List Sheet) (i : ℕ) (s : Sheet) (a b : Option (List ℕ)) → i < length sheets → s ≡ get_or sheets i s → has_view s ≡ false →
+    Becomes a b (with_blocks (markdown_blocks (take i sheets))) → Becomes a b (with_blocks (markdown_blocks (take (i + 1) sheets)))
+sheet_same sheets i s a b within is unseen so_far =
+    subst (λ ss. Becomes a b (with_blocks (map (λ s. markdown_block (string_bytes s.title) (view_of s)) ss)))
+    (sym (sheets_next sheets i s false within is unseen ∙ append-nil (filter has_view (take i sheets)))) so_far
+
+-- a block after a text that may be empty
+pub block_more : (a b c : Option (List ℕ)) (block : List ℕ) → Becomes a b parted → Grows b c block → Becomes a c (with_blocks (block ∷ []))
+block_more a b c block p (inr q) = inr q
+block_more a b c block (inr p) (inl q) = inr (q ∙ ap (λ o. append_known o block) p)
+block_more a b c block (inl p) (inl q) = inl (q ∙ ap (λ o. append_known o block) p ∙ both a) where
+  both : (o : Option (List ℕ)) → append_known (option_map parted o) block ≡ option_map (with_blocks (block ∷ [])) o
+  both None = refl
+  both (Some []) = ap Some (sym (append-nil block))
+  both (Some (c ∷ text)) = ap (λ zs. Some (c ∷ zs)) (append_assoc text (10 ∷ []) block ∙ ap (λ zs. text ++ 10 ∷ zs) (sym (append-nil block)))
