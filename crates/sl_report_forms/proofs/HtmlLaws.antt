@@ -67,14 +67,14 @@ entities_read_back [] = refl
 entities_read_back (c ∷ text) = entities_read_at (html_escaped text) c ∙ ap (λ xs. c ∷ xs) (entities_read_back text)
 
 -- ---- rows
-zip_more : {A B : Type 0} (xs : List A) (ys : List B) (i : ℕ) (x : A) (y : B) → slice_get xs i ≡ Some x → slice_get ys i ≡ Some y →
+pub zip_more : {A B : Type 0} (xs : List A) (ys : List B) (i : ℕ) (x : A) (y : B) → slice_get xs i ≡ Some x → slice_get ys i ≡ Some y →
     zip (take (suc i) xs) ys ≡ zip (take i xs) ys ++ (x, y) ∷ []
 zip_more [] ys i x y p q = cc
 zip_more (a ∷ xs) [] i x y p q = cc
 zip_more (a ∷ xs) (b ∷ ys) zero x y p q = let e : a ≡ x = cc in let f : b ≡ y = cc in ap (λ v. (v, b) ∷ []) e ∙ ap (λ v. (x, v) ∷ []) f
 zip_more (a ∷ xs) (b ∷ ys) (suc i) x y p q = ap (λ zs. (a, b) ∷ zs) (zip_more xs ys i x y p q)
 
-zip_same : {A B : Type 0} (xs : List A) (ys : List B) (i : ℕ) → slice_get ys i ≡ None → zip (take (suc i) xs) ys ≡ zip (take i xs) ys
+pub zip_same : {A B : Type 0} (xs : List A) (ys : List B) (i : ℕ) → slice_get ys i ≡ None → zip (take (suc i) xs) ys ≡ zip (take i xs) ys
 zip_same [] ys zero q = refl
 zip_same [] ys (suc i) q = refl
 zip_same (a ∷ xs) [] zero q = refl
@@ -101,10 +101,12 @@ slice_get-map f [] i = refl
 slice_get-map f (x ∷ xs) zero = refl
 slice_get-map f (x ∷ xs) (suc i) = slice_get-map f xs i
 
-module _ {Z : Type 0} (t u : Tag) (columns : List ShownColumn) (row : List (String Z)) (i : ℕ) (r : Option (Bor (String Z))) (at : IsItemAt row i r) where
-  text_at : slice_get (map string_bytes row) i ≡ option_map string_bytes (option_map (λ x. x.now) r)
-  text_at = slice_get-map string_bytes row i ∙ ap (option_map string_bytes) (sym (item_at row i r at))
+-- the bytes of the text at a place, if there is one
+pub text_at : {Z : Type 0} (row : List (String Z)) (i : ℕ) (r o : Option (Bor (String Z))) → IsItemAt row i r → r ≡ o →
+    slice_get (map string_bytes row) i ≡ option_map string_bytes (option_map (λ x. x.now) o)
+text_at row i r o at is = slice_get-map string_bytes row i ∙ ap (option_map string_bytes) (sym (item_at row i r at) ∙ ap (option_map (λ x. x.now)) is)
 
+module _ {Z : Type 0} (t u : Tag) (columns : List ShownColumn) (row : List (String Z)) (i : ℕ) (r : Option (Bor (String Z))) (at : IsItemAt row i r) where
   -- one cell more, and none
   pub row_more : (d : ShownColumn) (x : Bor (String Z)) (a b c : Option (List ℕ)) → i < length columns → r ≡ Some x →
       Grows a b (codes "<tr>" ++ html_cells t u (zip (take i columns) (map string_bytes row))) → Grows b c (html_cell (tag_at t u i) (get_or columns i d, string_bytes x.now)) →
@@ -113,7 +115,7 @@ module _ {Z : Type 0} (t u : Tag) (columns : List ShownColumn) (row : List (Stri
       grow_as a c _ _ (grow_more a b c _ _ so_far more) (
       ap (λ xs. codes "<tr>" ++ xs) (
       sym (ap (λ n. html_cells t u (zip (take n columns) (map string_bytes row))) (add-one i)
-      ∙ cells_more t u columns (map string_bytes row) i (get_or columns i d) (string_bytes x.now) (slice_get-get_or columns i d within) (text_at ∙ ap (λ o. option_map string_bytes (option_map (λ y. y.now) o)) is))))
+      ∙ cells_more t u columns (map string_bytes row) i (get_or columns i d) (string_bytes x.now) (slice_get-get_or columns i d within) (text_at row i r (Some x) at is))))
 
   pub row_same : (a b : Option (List ℕ)) → r ≡ None → Grows a b (codes "<tr>" ++ html_cells t u (zip (take i columns) (map string_bytes row))) →
       Grows a b (codes "<tr>" ++ html_cells t u (zip (take (i + 1) columns) (map string_bytes row)))
@@ -121,7 +123,7 @@ module _ {Z : Type 0} (t u : Tag) (columns : List ShownColumn) (row : List (Stri
       grow_as a b _ _ so_far (
       ap (λ cells. codes "<tr>" ++ html_cells t u cells) (
       sym (ap (λ n. zip (take n columns) (map string_bytes row)) (add-one i)
-      ∙ zip_same columns (map string_bytes row) i (text_at ∙ ap (λ o. option_map string_bytes (option_map (λ y. y.now) o)) is))))
+      ∙ zip_same columns (map string_bytes row) i (text_at row i r None at is))))
 
 -- ---- sections
 pub section_more : (sheets : List Sheet) (i : ℕ) (s : Sheet) (a b c : Option (List ℕ)) → i < length sheets → s ≡ get_or sheets i s → has_view s ≡ true →

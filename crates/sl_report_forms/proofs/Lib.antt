@@ -5,5 +5,6 @@ pub mod Zips
 pub mod HtmlLaws
 pub mod MarkdownLaws
 pub mod ShownSteps
+pub mod TextLaws
 mod CommaReading
 mod CommaWriting

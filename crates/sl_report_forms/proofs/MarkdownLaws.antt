@@ -6,12 +6,12 @@ use Rattle.std.specs.Io.KnownBytes.{append_known}
 use Rattle.std.specs.List.{flat_map}
 use Rattle.std.proofs.lemmas.Bool.{cases_Bool, eqb-true, or_cases}
 use Rattle.std.proofs.lemmas.Bool.Decides.{nat_tests}
-use Rattle.std.proofs.lemmas.List.{append-nil, map_push}
+use Rattle.std.proofs.lemmas.List.{append-nil, length-append, map_push}
 use Rattle.std.proofs.lemmas.List.Concat.{flat_map-append}
 use Rattle.std.proofs.lemmas.Str.{encode_ascii}
 use Rattle.sl_report_forms.specs.Drafts.{Grows}
-use Rattle.sl_report_forms.specs.MarkdownForm.{Becomes, is_line_end, is_mark, joined, markdown_block, markdown_blocks, markdown_byte, markdown_escaped, on_one_line, parted, read_after, with_blocks}
-use Rattle.sl_report_forms.specs.Shown.{has_view, view_of}
+use Rattle.sl_report_forms.specs.MarkdownForm.{Becomes, blocks_of, is_line_end, is_mark, joined, markdown_byte, markdown_escaped, on_one_line, parted, read_after, with_blocks}
+use Rattle.sl_report_forms.specs.Shown.{View, has_view, view_of}
 use Rattle.sl_report_forms.specs.declared.sheet.Sheet.{Sheet}
 use Rattle.sl_report_forms.proofs.ShownSteps.{ascii_char, plain_char, sheets_next}
 
@@ -78,12 +78,23 @@ joined_more b bs x =
     append_assoc b (flat_map (λ y. 10 ∷ y) bs) (flat_map (λ y. 10 ∷ y) (x ∷ []))
     ∙ ap (λ zs. b ++ zs) (sym (flat_map-append (λ y. 10 ∷ y) bs (x ∷ [])))
 
-blocks_more : (ss : List Sheet) (x text : List ℕ) → with_blocks (x ∷ []) (with_blocks (map (λ s. markdown_block (string_bytes s.title) (view_of s)) ss) text)
-    ≡ with_blocks (map (λ s. markdown_block (string_bytes s.title) (view_of s)) ss ++ x ∷ []) text
-blocks_more [] x [] = refl
-blocks_more [] x (c ∷ text) = ap (λ t. joined ((c ∷ t) ∷ x ∷ [])) (append-nil text)
-blocks_more (s ∷ ss) x [] = joined_more (markdown_block (string_bytes s.title) (view_of s)) (map (λ s. markdown_block (string_bytes s.title) (view_of s)) ss) x
-blocks_more (s ∷ ss) x (c ∷ text) = joined_more (c ∷ text) (map (λ s. markdown_block (string_bytes s.title) (view_of s)) (s ∷ ss)) x
+after_block : (x text : List ℕ) → 0 < length text → with_blocks (x ∷ []) text ≡ joined (text ∷ x ∷ [])
+after_block x [] some = absurd (omega (arith, some))
+after_block x (c ∷ text) some = refl
+
+-- what no block leaves empty
+abbrev pub Begins : (List ℕ → View → List ℕ) → Type 0
+Begins block = (title : List ℕ) (v : View) → 0 < length (block title v)
+
+blocks_more : (block : List ℕ → View → List ℕ) → Begins block → (ss : List Sheet) (x text : List ℕ) →
+    with_blocks (x ∷ []) (with_blocks (map (λ s. block (string_bytes s.title) (view_of s)) ss) text) ≡ with_blocks (map (λ s. block (string_bytes s.title) (view_of s)) ss ++ x ∷ []) text
+blocks_more block begins [] x [] = refl
+blocks_more block begins [] x (c ∷ text) = ap (λ t. joined ((c ∷ t) ∷ x ∷ [])) (append-nil text)
+blocks_more block begins (s ∷ ss) x [] =
+    let blocks = map (λ s. block (string_bytes s.title) (view_of s)) ss in
+    let first = block (string_bytes s.title) (view_of s) in
+    after_block x (joined (first ∷ blocks)) (omega (arith, begins (string_bytes s.title) (view_of s), length-append first (flat_map (λ y. 10 ∷ y) blocks))) ∙ joined_more first blocks x
+blocks_more block begins (s ∷ ss) x (c ∷ text) = joined_more (c ∷ text) (map (λ s. block (string_bytes s.title) (view_of s)) (s ∷ ss)) x
 
 becomes_more : (a b c : Option (List ℕ)) (f g h : List ℕ → List ℕ) → ((text : List ℕ) → g (f text) ≡ h text) → Becomes a b f → Becomes b c g → Becomes a c h
 becomes_more a b c f g h same p (inr q) = inr q
@@ -94,21 +105,21 @@ becomes_more a b c f g h same (inl p) (inl q) = inl (q ∙ ap (option_map g) p �
   both (Some text) = ap Some (same text)
 
 -- one sheet more, that is shown
-pub sheet_more : (sheets : List Sheet) (i : ℕ) (s : Sheet) (a b c : Option (List ℕ)) → i < length sheets → s ≡ get_or sheets i s → has_view s ≡ true →
-    Becomes a b (with_blocks (markdown_blocks (take i sheets))) → Becomes b c (with_blocks (markdown_block (string_bytes s.title) (view_of s) ∷ [])) →
-    Becomes a c (with_blocks (markdown_blocks (take (i + 1) sheets)))
-sheet_more sheets i s a b c within is seen so_far more =
+pub sheet_more : (block : List ℕ → View → List ℕ) → Begins block → (sheets : List Sheet) (i : ℕ) (s : Sheet) (a b c : Option (List ℕ)) → i < length sheets → s ≡ get_or sheets i s → has_view s ≡ true →
+    Becomes a b (with_blocks (blocks_of block (take i sheets))) → Becomes b c (with_blocks (block (string_bytes s.title) (view_of s) ∷ [])) →
+    Becomes a c (with_blocks (blocks_of block (take (i + 1) sheets)))
+sheet_more block begins sheets i s a b c within is seen so_far more =
     becomes_more a b c _ _ _
-    (λ text. blocks_more (filter has_view (take i sheets)) (markdown_block (string_bytes s.title) (view_of s)) text
+    (λ text. blocks_more block begins (filter has_view (take i sheets)) (block (string_bytes s.title) (view_of s)) text
     ∙ ap (λ bs. with_blocks bs text) (sym (
-    ap (map (λ s. markdown_block (string_bytes s.title) (view_of s))) (sheets_next sheets i s true within is seen)
-    ∙ map_push (λ s. markdown_block (string_bytes s.title) (view_of s)) (filter has_view (take i sheets)) s)))
+    ap (map (λ s. block (string_bytes s.title) (view_of s))) (sheets_next sheets i s true within is seen)
+    ∙ map_push (λ s. block (string_bytes s.title) (view_of s)) (filter has_view (take i sheets)) s)))
     so_far more
 
-pub sheet_same : (sheets : List Sheet) (i : ℕ) (s : Sheet) (a b : Option (List ℕ)) → i < length sheets → s ≡ get_or sheets i s → has_view s ≡ false →
-    Becomes a b (with_blocks (markdown_blocks (take i sheets))) → Becomes a b (with_blocks (markdown_blocks (take (i + 1) sheets)))
-sheet_same sheets i s a b within is unseen so_far =
-    subst (λ ss. Becomes a b (with_blocks (map (λ s. markdown_block (string_bytes s.title) (view_of s)) ss)))
+pub sheet_same : (block : List ℕ → View → List ℕ) (sheets : List Sheet) (i : ℕ) (s : Sheet) (a b : Option (List ℕ)) → i < length sheets → s ≡ get_or sheets i s → has_view s ≡ false →
+    Becomes a b (with_blocks (blocks_of block (take i sheets))) → Becomes a b (with_blocks (blocks_of block (take (i + 1) sheets)))
+sheet_same block sheets i s a b within is unseen so_far =
+    subst (λ ss. Becomes a b (with_blocks (map (λ s. block (string_bytes s.title) (view_of s)) ss)))
     (sym (sheets_next sheets i s false within is unseen ∙ append-nil (filter has_view (take i sheets)))) so_far
 
 -- a block after a text that may be empty

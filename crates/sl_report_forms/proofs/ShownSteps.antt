@@ -41,13 +41,16 @@ take_next : {X : Type 0} (xs : List X) (i : ℕ) (x : X) → slice_get xs i ≡ 
 take_next xs i x at = take_more xs i x (slice_get_within xs i x at) ∙ ap (λ y. take i xs ++ y ∷ []) (get_or_from_slice_get xs i x x at)
 
 -- the bytes of one item more
-pub grow_next : {X Y : Type 0} (g : X → Y) (f : Y → List ℕ) (xs : List X) (i : ℕ) (x : X) (a b c : Option (List ℕ)) → i < length xs → x ≡ get_or xs i x →
-    Grows a b (flat_map f (map g (take i xs))) → Grows b c (f (g x)) → Grows a c (flat_map f (map g (take (i + 1) xs)))
-grow_next g f xs i x a b c within is so_far more =
-    grow_as a c _ _ (grow_more a b c _ _ so_far more) (sym (
+pub bytes_next : {X Y : Type 0} (g : X → Y) (f : Y → List ℕ) (xs : List X) (i : ℕ) (x : X) → i < length xs → x ≡ get_or xs i x →
+    flat_map f (map g (take (i + 1) xs)) ≡ flat_map f (map g (take i xs)) ++ f (g x)
+bytes_next g f xs i x within is =
     ap (λ ys. flat_map f (map g ys)) (take_more xs i x within ∙ ap (λ y. take i xs ++ y ∷ []) (sym is))
     ∙ ap (flat_map f) (map_push g (take i xs) x) ∙ flat_map-append f (map g (take i xs)) (g x ∷ [])
-    ∙ ap (λ ys. flat_map f (map g (take i xs)) ++ ys) (append-nil (f (g x)))))
+    ∙ ap (λ ys. flat_map f (map g (take i xs)) ++ ys) (append-nil (f (g x)))
+
+pub grow_next : {X Y : Type 0} (g : X → Y) (f : Y → List ℕ) (xs : List X) (i : ℕ) (x : X) (a b c : Option (List ℕ)) → i < length xs → x ≡ get_or xs i x →
+    Grows a b (flat_map f (map g (take i xs))) → Grows b c (f (g x)) → Grows a c (flat_map f (map g (take (i + 1) xs)))
+grow_next g f xs i x a b c within is so_far more = grow_as a c _ _ (grow_more a b c _ _ so_far more) (sym (bytes_next g f xs i x within is))
 
 -- the text that is given at the end, if nothing before it failed
 pub grown_text : {A E Z : Type 0} (put : Result A E) (made r : Result (String Z) E) (a b : Option (List ℕ)) (bytes : List ℕ) → r ≡ result_and put made → a ≡ Some [] →
@@ -133,7 +136,7 @@ pub told_same : {A : Type 0} (f : A → List ℕ) (xs : List A) (columns : List 
 told_same f xs columns i d r within h is =
     ap (map f) (sym (in_columns_next xs columns i d r within h ∙ ap (λ o. in_columns (take i columns) xs ++ option_to_list (option_map (λ y. y.now) o)) is ∙ append-nil (in_columns (take i columns) xs)))
 
-enumerate-append : {A : Type 0} (n : ℕ) (xs : List A) (x : A) → enumerate_from n (xs ++ x ∷ []) ≡ enumerate_from n xs ++ (n + length xs, x) ∷ []
+pub enumerate-append : {A : Type 0} (n : ℕ) (xs : List A) (x : A) → enumerate_from n (xs ++ x ∷ []) ≡ enumerate_from n xs ++ (n + length xs, x) ∷ []
 enumerate-append n [] x = ap (λ m. (m, x) ∷ []) (sym (add-zero n))
 enumerate-append n (y ∷ ys) x =
     let e : n + 1 + length ys ≡ n + suc (length ys) = omega arith in

@@ -8,3 +8,4 @@ pub mod JsonForm
 pub mod MarkdownForm
 pub mod Shown
 pub mod Tables
+pub mod TextForm

@@ -47,8 +47,8 @@ abbrev pub markdown_block : List ℕ → View → List ℕ
 markdown_block title v = codes "## " ++ markdown_escaped title ++ codes "\n\n" ++ markdown_table v
 
 -- the blocks of the sheets that are shown
-abbrev pub markdown_blocks : List Sheet → List (List ℕ)
-markdown_blocks sheets = map (λ s. markdown_block (string_bytes s.title) (view_of s)) (filter has_view sheets)
+abbrev pub blocks_of : (List ℕ → View → List ℕ) → List Sheet → List (List ℕ)
+blocks_of block sheets = map (λ s. block (string_bytes s.title) (view_of s)) (filter has_view sheets)
 
 abbrev pub fault_blocks : Option (List ℕ) → List (List ℕ)
 fault_blocks None = []
@@ -59,7 +59,7 @@ abbrev pub joined : List (List ℕ) → List ℕ
 joined blocks = join_by (λ block. block) (codes "\n") blocks
 
 abbrev pub markdown_of : Option (List ℕ) → List Sheet → List ℕ
-markdown_of line sheets = joined (fault_blocks line ++ markdown_blocks sheets)
+markdown_of line sheets = joined (fault_blocks line ++ blocks_of markdown_block sheets)
 
 -- the text is what this makes of the one before, or memory has run out
 abbrev pub Becomes : Option (List ℕ) → Option (List ℕ) → (List ℕ → List ℕ) → Type 0

@@ -1,9 +1,9 @@
 //! Sheets of rows, and their forms: aligned text, Markdown, HTML, comma-separated values, and JSON.
 //!
 //! Stands on `sl_explain_texts`; used by the room report. Proved: what stands in the cells of each row; the text of a cell as
-//! a program and as a person read it; CSV and JSON, in which `csv` and `serde_json` read again what was written; Markdown and
-//! HTML, whose escaped texts read back; and the digest of an input. Only tested: aligned text, the title of a command in HTML,
-//! and the words of an explanation in JSON.
+//! a program and as a person read it; CSV and JSON, in which `csv` and `serde_json` read again what was written; Markdown, HTML
+//! and aligned text, byte for byte; and the digest of an input. Only tested: the title of a command in HTML, and the words of an
+//! explanation in JSON.
 //!
 //! Where an error is `NoMemory` alone, memory ran out, and nothing else is wrong.
 #![tactic(auto)]

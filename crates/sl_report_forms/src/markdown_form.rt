@@ -95,8 +95,8 @@ fn put_table(out: &mut Draft, shown: &Shown)
     }
 }
 
-// Adds an empty line after what is written, if anything is.
-fn put_gap(out: &mut Draft)
+/// Adds an empty line after what is written, if anything is.
+pub(crate) fn put_gap(out: &mut Draft)
     ensures { spec.Becomes out.old out.new spec.parted }
 {
     if !out.is_empty() {
@@ -124,7 +124,7 @@ fn put_shown(out: &mut Draft, title: &str, shown: &Shown)
 
 // Adds the sheets that are shown.
 fn put_sheets(alloc: Global, out: &mut Draft, sheets: &[Sheet]) -> Result<(), NoMemory>
-    ensures { OnOk result (spec.Becomes out.old out.new (spec.with_blocks (spec.markdown_blocks sheets.now))) }
+    ensures { OnOk result (spec.Becomes out.old out.new (spec.with_blocks (spec.blocks_of spec.markdown_block sheets.now))) }
 {
     for sheet in sheets {
         let shown = shown_of(alloc, sheet)?;

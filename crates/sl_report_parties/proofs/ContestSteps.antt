@@ -12,7 +12,8 @@ use Rattle.std.specs.List.Sorted.{IsPermutation, IsSortedByKeyClosure, IsStableB
 use Rattle.std.specs.Ordering.{nat_cmp}
 use Rattle.std.proofs.lemmas.List.Sorted.{answers_always}
 use Rattle.sl_report_parties.proofs.Steps.{filter_next}
-use Rattle.sl_report_parties.specs.Ranks.{AddsContested, AreByRank, is_contested, winners_of_list}
+use Rattle.sl_report_parties.specs.Ranks.{AreByRank, is_contested, winners_of_list}
+use Rattle.sl_report_parties.specs.inner.Contests.{AddsContested}
 use Rattle.sl_report_parties.specs.declared.contests.Ranked.{Ranked}
 use Rattle.sl_law_meaning.specs.declared.book.Cond.{Cond}
 use Rattle.sl_law_meaning.specs.declared.table.ListSeats.{ListSeats}

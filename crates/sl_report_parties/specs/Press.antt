@@ -1,7 +1,8 @@
 -- The parties that a press report shows, in the order of their seats, and those that it leaves out.
-use Rattle.std.specs.List.Sorted.{IsPermutation, IsSortedByKey, IsStableByKey}
+use Rattle.std.specs.List.Sorted.{IsPermutation, IsStableByKey}
+use Rattle.std.specs.List.{AllAdjacentBelow}
 use Rattle.std.specs.Ordering.{nat_cmp}
-use Rattle.std.specs.Prelude.{ℕ, ◌-◌, ◌^◌, ◌||◌, Bool, List, [], Option, filter, is_none, map, nat_lt, option_map, slice_index_or, unwrap_or}
+use Rattle.std.specs.Prelude.{ℕ, ◌≤◌, ◌||◌, Bool, List, [], Option, filter, is_none, length, map, nat_lt, option_map, slice_index_or, unwrap_or}
 use Rattle.sl_report_parties.specs.Earlier.{seats_before}
 use Rattle.sl_report_parties.specs.Parts.{part_of}
 use Rattle.sl_report_parties.specs.Seats.{party_seats}
@@ -13,15 +14,11 @@ use Rattle.sl_law_meaning.specs.meaning.Tables.{SeatTable}
 use Rattle.sl_law_meaning.specs.returns.Election.{Election}
 use Rattle.sl_law_meaning.specs.returns.Facts.{parties}
 
--- how far a number is from the greatest of 64 bits: the greater, the less
-abbrev pub below_most : ℕ → ℕ
-below_most n = (2 ^ 64 - 1) - n
-
--- these by a number, the greatest first, and of as great ones in their order
+-- these, those with the most first: of two that stand one after another the first has at least as many, and those with as many keep their order
 pub record AreByGreatest {A : Type 0} (number : A → ℕ) (xs ys : List A) : Type 0 where
   pub all : IsPermutation xs ys
-  pub order : IsSortedByKey (λ x. below_most (number x)) nat_cmp ys
-  pub ties : IsStableByKey (λ x. below_most (number x)) nat_cmp xs ys
+  pub order : AllAdjacentBelow (λ x y. number y ≤ number x) ys (length ys)
+  pub ties : IsStableByKey number nat_cmp xs ys
 
 -- ---- who is shown
 

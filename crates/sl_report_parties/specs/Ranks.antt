@@ -1,5 +1,5 @@
 -- The ranks of the winners of a list.
-use Rattle.std.specs.Prelude.{◌≡◌, ℕ, ◌+◌, ◌*◌, ◌⊎◌, Bool, true, false, ◌&&◌, ◌++◌, List, count_by, filter, flat_map, map, nat_eq, nat_lt, option_map, slice_get, unwrap_or}
+use Rattle.std.specs.Prelude.{◌≡◌, ℕ, ◌+◌, ◌*◌, Bool, false, ◌&&◌, List, count_by, filter, flat_map, map, nat_eq, nat_lt, option_map, slice_get, unwrap_or}
 use Rattle.std.specs.List.Sorted.{IsPermutation, IsSortedByKey, IsStableByKey}
 use Rattle.std.specs.List.{AllZip, enumerate_from}
 use Rattle.std.specs.Ordering.{nat_cmp}
@@ -45,18 +45,16 @@ pub record AreByRank (xs ys : List Ranked) : Type 0 where
   pub order : IsSortedByKey (λ w. w.rank) nat_cmp ys
   pub ties : IsStableByKey (λ w. w.rank) nat_cmp xs ys
 
+-- the list is of a party of the election that meets a condition
+abbrev pub has_eligible_party : List Cond → Election → ListSeats → Bool
+has_eligible_party conditions e l = nat_lt l.party (parties_of e) && is_eligible conditions e l.party
+
 -- a list of a party that takes part has more winners than seats
 abbrev pub is_contested : List Cond → Election → ListSeats → Bool
-is_contested conditions e l = nat_lt l.seats (count_by (is_on l) e.wins) && (nat_lt l.party (parties_of e) && is_eligible conditions e l.party)
+is_contested conditions e l = nat_lt l.seats (count_by (is_on l) e.wins) && has_eligible_party conditions e l
 
 -- the winners of each contested list, list by list
 abbrev pub AreContested : List Cond → SeatTable → Election → List Ranked → Type 0
 AreContested conditions t e found =
     (each : List (List Ranked)) × AllZip (λ l ws. AreByRank (winners_of_list t e l) ws) (filter (is_contested conditions e) t.lists) each
     × (found ≡ flat_map (λ ws. ws) each)
-
--- the winners of a list after others, if the list is contested
-abbrev pub AddsContested : List Cond → SeatTable → Election → ListSeats → List Ranked → List Ranked → Type 0
-AddsContested conditions t e l before after =
-    ((is_contested conditions e l ≡ false) × (after ≡ before))
-    ⊎ ((is_contested conditions e l ≡ true) × (ws : List Ranked) × AreByRank (winners_of_list t e l) ws × (after ≡ before ++ ws))

@@ -1,3 +1,4 @@
 -- What only bodies and proofs cite.
 pub mod Winners
 pub mod PartySeats
+pub mod Contests

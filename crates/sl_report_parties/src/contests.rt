@@ -2,8 +2,9 @@
 
 ghost use Rattle.std.specs.Prelude.{◌≡◌, ◌+◌, IfOk, IfSome, OnOk, false, count_by, filter, is_some, map, option_map, slice_get, unwrap_or};
 ghost use Rattle.std.specs.List.{enumerate_from};
-ghost use Rattle.sl_report_parties.specs.Ranks.{AddsContested, AreByRank, AreContested, is_above, is_contested, is_on};
+ghost use Rattle.sl_report_parties.specs.Ranks.{AreByRank, AreContested, is_above, is_contested, is_on};
 ghost use Rattle.sl_report_parties.specs.Seats.{is_seated};
+ghost use Rattle.sl_report_parties.specs.inner.Contests.{AddsContested};
 ghost use Rattle.sl_report_parties.specs.inner.Winners.{AreOnLists, ranked_by};
 
 use crate::facts::Setting;

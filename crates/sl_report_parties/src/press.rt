@@ -2,7 +2,7 @@
 
 ghost use Rattle.std.specs.Prelude.{◌≡◌, ◌<◌, ◌++◌, ◌∷◌, [], IfOk, OnOk, filter, map, option_map, slice_index_or};
 ghost use Rattle.sl_report_parties.specs.Earlier.{seats_before};
-ghost use Rattle.sl_report_parties.specs.Press.{AreLeftOut, ArePressed, below_most, is_left_out, is_pressed, pressed_of, standing_of};
+ghost use Rattle.sl_report_parties.specs.Press.{AreLeftOut, ArePressed, is_left_out, is_pressed, pressed_of, standing_of};
 ghost use Rattle.sl_law_meaning.specs.returns.Election.{parties_of};
 ghost use Rattle.sl_law_meaning.specs.returns.Facts.{parties};
 
@@ -87,11 +87,7 @@ pub fn by_seats(
     ensures { IfOk result (λ found. ArePressed setting.now.book.now.eligible.items table.now setting.now.returns.now (option_map (λ all. all.now) earlier.entry) found.items) }
 {
     let mut found = with_seats(alloc, setting, table, earlier)?;
-    found.sort_by_key(
-        |pressed|
-            ensures { result ≡ below_most pressed.now.seats.seats }
-        { u64::MAX - pressed.seats.seats },
-    )?;
+    found.sort_by(|first, second| second.seats.seats.cmp(&first.seats.seats))?;
     Ok(found)
 }
 
@@ -122,10 +118,6 @@ pub fn left_out(alloc: Global, setting: &Setting<'_>) -> Result<Vec<Standing>, N
     ensures { IfOk result (λ found. AreLeftOut setting.now.book.now.eligible.items setting.now.returns.now found.items) }
 {
     let mut found = without_condition(alloc, setting)?;
-    found.sort_by_key(
-        |standing|
-            ensures { result ≡ below_most standing.now.part.votes.valid }
-        { u64::MAX - standing.part.votes.valid },
-    )?;
+    found.sort_by(|first, second| second.part.votes.valid.cmp(&first.part.votes.valid))?;
     Ok(found)
 }

@@ -8,7 +8,8 @@ use Rattle.std.proofs.lemmas.List.FromFn.{get_or-map-range_with_len, length-map-
 use Rattle.std.proofs.lemmas.Option.{slice_get-get_or}
 use Rattle.sl_report_parties.proofs.Steps.{filter_next}
 use Rattle.sl_report_results.specs.Places.{IsScope, items_in, scope_at, scope_count}
-use Rattle.sl_report_results.specs.Scopes.{Adds, IsScopeOf, has_entry, scope_entries}
+use Rattle.sl_report_results.specs.Scopes.{IsScopeOf, has_entry, scope_entries}
+use Rattle.sl_report_results.specs.inner.MoreScopes.{Adds}
 use Rattle.sl_report_results.specs.inner.Within.{shape_in}
 use Rattle.sl_report_results.specs.declared.columns.Distribution.{Distribution}
 use Rattle.sl_report_results.specs.declared.scopes.Scoped.{Scoped}

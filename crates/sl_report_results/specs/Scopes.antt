@@ -1,5 +1,5 @@
 -- The scopes of a stage, as a report shows them: their entries, and the divisor or the quota with what follows from it.
-use Rattle.std.specs.Prelude.{◌≡◌, ◌⊎◌, ℕ, ◌*◌, ◌^◌, ◌<◌, ◌≤◌, Bool, true, false, not, ◌&&◌, ◌||◌, List, [], ◌∷◌, ◌++◌, Option, Some, None, is_some, length, map, filter, All, sum, sum_by, nat_lt, option_map, unwrap_or, slice_index, slice_index_or}
+use Rattle.std.specs.Prelude.{◌≡◌, ◌⊎◌, ℕ, ◌*◌, ◌^◌, ◌<◌, ◌≤◌, Bool, true, false, not, ◌&&◌, ◌||◌, List, [], Option, Some, None, is_some, length, map, filter, All, sum, sum_by, nat_lt, option_map, unwrap_or, slice_index, slice_index_or}
 use Rattle.std.specs.List.{AllZip, zip}
 use Rattle.sl_law_margins.specs.Divisors.{IsShortDivisor}
 use Rattle.sl_law_margins.specs.MissingVotes.{AreMissing, IsAllocation}
@@ -173,11 +173,6 @@ pub record IsHead (number : ℕ) (d : Distribution) (in_scope : Scope) (xs : Lis
 pub record IsScoped (number : ℕ) (d : Distribution) (in_scope : Scope) (xs : List Entry) (s : Scoped) : Type 0 where
   pub head : IsHead number d in_scope xs s
   pub follows : Follows d.method (is_some d.minima) xs s
-
--- a scope of these entries after others, where there is one
-abbrev pub Adds : ℕ → Distribution → Scope → List Entry → List Scoped → List Scoped → Type 0
-Adds number d in_scope xs before after =
-    ((length xs ≡ 0) × (after ≡ before)) ⊎ ((s : Scoped) × (0 < length xs) × (after ≡ before ++ s ∷ []) × IsScoped number d in_scope xs s)
 
 module _ (e : Election) (name : List ℕ) (stage : ℕ) (d : Distribution) (steps : List SeatStep) where
   -- a scope with an entry

@@ -3,3 +3,4 @@ pub mod Within
 pub mod Tables
 pub mod Common
 pub mod Drawn
+pub mod MoreScopes

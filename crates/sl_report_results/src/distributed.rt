@@ -6,13 +6,14 @@ ghost use Rattle.sl_law_meaning.specs.meaning.Counts.{HoldsStages};
 ghost use Rattle.sl_base_quotients.specs.declared.method.Method.TheVariants as by;
 ghost use Rattle.sl_report_results.specs.Lots.{AreLots};
 ghost use Rattle.sl_report_results.specs.Places.{IsScope, items_in};
-ghost use Rattle.sl_report_results.specs.Scopes.{Adds, AreMargins, AreScopes, HasMargins, HasNone, HasQuota, IsAllocated, IsHead, IsScoped, held_of, scope_entries, weights_of};
+ghost use Rattle.sl_report_results.specs.Scopes.{AreMargins, AreScopes, HasMargins, HasNone, HasQuota, IsAllocated, IsHead, IsScoped, held_of, scope_entries, weights_of};
 ghost use Rattle.sl_report_results.specs.StageScopes.{AreStageScopes, name_of};
 ghost use Rattle.sl_law_meaning.specs.book.Books.{book_of};
 ghost use Rattle.sl_law_meaning.specs.book.Trees.{tree_of};
 ghost use Rattle.sl_law_meaning.specs.declared.book.Stage.{Stage};
 ghost use Rattle.sl_law_meaning.specs.declared.table.SeatStep.{SeatStep};
 ghost use Rattle.sl_report_results.specs.inner.Drawn.{given_by};
+ghost use Rattle.sl_report_results.specs.inner.MoreScopes.{Adds};
 ghost use Rattle.sl_report_results.specs.inner.Tables.{AreWon};
 ghost use Rattle.sl_report_results.specs.inner.Within.{shape_in};
 

@@ -8,6 +8,7 @@ use Rattle.sl_report_forms.specs.CommaForm.{IsCommaText}
 use Rattle.sl_report_forms.specs.HtmlForm.{html_page}
 use Rattle.sl_report_forms.specs.JsonForm.{IsJsonText}
 use Rattle.sl_report_forms.specs.MarkdownForm.{markdown_of}
+use Rattle.sl_report_forms.specs.TextForm.{aligned_of}
 use Rattle.sl_report_forms.specs.Tables.{Table, table_of}
 use Rattle.sl_report_forms.specs.declared.heading.Heading.{Heading}
 use Rattle.sl_report_tables.specs.declared.answer.Answer.{Answer}
@@ -41,15 +42,20 @@ IsToldLine line None = (told : List ℕ) → line ≡ told ++ 10 ∷ [] → ¬ I
 abbrev pub OfLine : (Option (List ℕ) → Type 0) → Answer → Type 0
 OfLine Is a = (line : Option (List ℕ)) × IsToldLine a.line.items line × Is line
 
--- the text of an answer with such a status: in JSON its tables; else of a refusal the line, and of others the sheets, in Markdown and in HTML under their
--- line. Of aligned text nothing is said, nor of the title that HTML has for a command
+-- sheets below the line of a legal fault, if there is one, and an empty line
+abbrev pub below_line : List ℕ → List ℕ → List ℕ
+below_line [] sheets = sheets
+below_line (c ∷ line) sheets = (c ∷ line) ++ 10 ∷ sheets
+
+-- the text of an answer with such a status: in JSON its tables; else of a refusal the line, and of others the sheets, with the line of a legal fault. Nothing
+-- is said of the title that HTML has for a command
 abbrev pub IsTextOf : Shape → Heading → Status → Answer → List ℕ → Type 0
 IsTextOf shape.Json heading status a text = OfLine (λ line. IsJsonText heading (status_number status) line a.sheets.items text) a
 IsTextOf shape heading Refused a text = text ≡ a.line.items
 IsTextOf shape.Comma heading status a text = IsCommaText a.sheets.items text
 IsTextOf shape.Markdown heading status a text = OfLine (λ line. text ≡ markdown_of line a.sheets.items) a
 IsTextOf shape.Html heading status a text = OfLine (λ line. (title : List ℕ) × (text ≡ html_page heading.language title line a.sheets.items)) a
-IsTextOf shape.Text heading status a text = Unit {0}
+IsTextOf shape.Text heading status a text = text ≡ below_line a.line.items (aligned_of a.sheets.items)
 
 abbrev pub IsAnswerText : Shape → Heading → Answer → List ℕ → Type 0
 IsAnswerText shape heading a text = IsTextOf shape heading a.status a text

@@ -63,16 +63,13 @@ module _ (b : Book) (e : Election) where
   abbrev pub ShowsSteps : SeatTable → List Table → Type 0
   ShowsSteps t tables = (found : List ScopeBounds) × AreBoundsOf t found × (tables ≡ steps_table t ∷ bounds_table found ∷ seat_tables t)
 
-  -- the lists, the scopes of all stages with their entries, and those of winners, after other tables
-  pub record AddsCounted (c : Counted) (before after : List Table) : Type 0 where
+  -- a count: the law and the parties, the lists, the scopes of all stages with their entries, and the winners
+  pub record IsCountReport (c : Counted) (tables : List Table) : Type 0 where
     pub scopes : List Scoped
     pub all : AreAllScopes c scopes
     pub ranked : List Ranked
     pub covered : AreCovered b.last.seating b.eligible.items c.table e ranked
-    pub added : after ≡ before ++ ((lists_table false e c.table ∷ scope_tables scopes) ++ winner_tables e c.table ranked)
-
-  abbrev pub IsCountReport : Counted → List Table → Type 0
-  IsCountReport c tables = AddsCounted c (first_tables (Some c.table)) tables
+    pub tables_are : tables ≡ first_tables (Some c.table) ++ ((lists_table false e c.table ∷ scope_tables scopes) ++ winner_tables e c.table ranked)
 
   -- ---- the report for the press
 

@@ -5,7 +5,8 @@ ghost use Rattle.sl_count_inputs.specs.Statuses.{status_number};
 ghost use Rattle.sl_report_forms.specs.HtmlForm.{html_page};
 ghost use Rattle.sl_report_forms.specs.JsonForm.{IsJsonText};
 ghost use Rattle.sl_report_forms.specs.MarkdownForm.{markdown_of};
-ghost use Rattle.sl_report_tables.specs.Answers.{IsAnswerText, IsRefusal, IsRefusedBy, IsToldLine, OfLine};
+ghost use Rattle.sl_report_forms.specs.TextForm.{aligned_of};
+ghost use Rattle.sl_report_tables.specs.Answers.{IsAnswerText, IsRefusal, IsRefusedBy, IsToldLine, OfLine, below_line};
 
 use sl_base_quotients::NoMemory;
 use sl_count_inputs::Status;
@@ -106,7 +107,9 @@ impl Answer {
     }
 
     // The sheets as aligned text, after the line of a legal fault, if there is one, and an empty line.
-    fn aligned(&self, alloc: Global) -> Result<Vec<u8>, NoMemory> {
+    fn aligned(&self, alloc: Global) -> Result<Vec<u8>, NoMemory>
+        ensures { IfOk result (λ text. text.items ≡ below_line self.now.line.items (aligned_of self.now.sheets.items)) }
+    {
         let sheets = aligned_text(alloc, self.sheets.as_slice())?;
         if self.line.is_empty() {
             return Ok(sheets.into_bytes());

@@ -5,7 +5,7 @@ ghost use Rattle.sl_report_forms.specs.Tables.{table_of};
 ghost use Rattle.sl_report_parties.specs.Seats.{all_seats};
 ghost use Rattle.sl_report_parties.specs.declared.contests.Ranked.{Ranked};
 ghost use Rattle.sl_report_tables.specs.Parties.{AreCovered, house_of, law_table};
-ghost use Rattle.sl_report_tables.specs.Reports.{AddsCounted, AreAllScopes, IsCountReport, first_tables, place_tables, winner_tables};
+ghost use Rattle.sl_report_tables.specs.Reports.{AreAllScopes, IsCountReport, first_tables, place_tables, winner_tables};
 ghost use Rattle.sl_report_tables.specs.Scopes.{scope_tables};
 ghost use Rattle.sl_law_meaning.specs.book.Books.{book_of};
 ghost use Rattle.sl_law_meaning.specs.meaning.Counts.{HoldsStages};
@@ -127,28 +127,6 @@ fn push_winner_sheets(
     Ok(())
 }
 
-// Adds the sheets that only a count with a table has.
-fn push_counted(
-    alloc: Global,
-    sheets: &mut Vec<Sheet>,
-    setting: &Setting<'_>,
-    naming: &Naming<'_>,
-    counted: &Counted,
-) -> Result<(), NoMemory>
-    requires { HoldsStages (book_of setting.now.book.now) setting.now.returns.now counted.now.columns.items }
-    ensures { OnOk result (AddsCounted setting.now.book.now setting.now.returns.now counted.now (map table_of sheets.old.items) (map table_of sheets.new.items)) }
-{
-    let table = &counted.table;
-    add_sheet(
-        sheets,
-        lists_sheet(alloc, setting.returns, naming, table, false),
-    )?;
-    let scopes = all_scopes(alloc, setting, counted)?;
-    push_scope_sheets(alloc, sheets, setting.book, naming, scopes.as_slice())?;
-    push_winner_sheets(alloc, sheets, setting, naming, table)?;
-    Ok(())
-}
-
 /// The law, and the parties with who takes part; with their seats where a table is known.
 pub(crate) fn first_sheets(
     alloc: Global,
@@ -175,7 +153,14 @@ pub(crate) fn report_sheets(
     requires { HoldsStages (book_of setting.now.book.now) setting.now.returns.now counted.now.columns.items }
     ensures { IfOk result (λ sheets. IsCountReport setting.now.book.now setting.now.returns.now counted.now (map table_of sheets.items)) }
 {
-    let mut sheets = first_sheets(alloc, setting, naming, Some(&counted.table))?;
-    push_counted(alloc, &mut sheets, setting, naming, counted)?;
+    let table = &counted.table;
+    let mut sheets = first_sheets(alloc, setting, naming, Some(table))?;
+    add_sheet(
+        &mut sheets,
+        lists_sheet(alloc, setting.returns, naming, table, false),
+    )?;
+    let scopes = all_scopes(alloc, setting, counted)?;
+    push_scope_sheets(alloc, &mut sheets, setting.book, naming, scopes.as_slice())?;
+    push_winner_sheets(alloc, &mut sheets, setting, naming, table)?;
     Ok(sheets)
 }

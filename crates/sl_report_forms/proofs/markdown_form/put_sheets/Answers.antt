@@ -1,5 +1,5 @@
-use Rattle.std.proofs.Common.{◌∙◌, ◌+◌, ◌∷◌, [], ap, not, string_bytes, subst, sym, take}
-use Rattle.sl_report_forms.specs.MarkdownForm.{Becomes, markdown_block, markdown_blocks, with_blocks}
+use Rattle.std.proofs.Common.{arith, ◌∙◌, ◌+◌, ◌∷◌, [], ap, not, string_bytes, subst, sym, take}
+use Rattle.sl_report_forms.specs.MarkdownForm.{Becomes, blocks_of, markdown_block, with_blocks}
 use Rattle.sl_report_forms.proofs.MarkdownLaws.{sheet_more, sheet_same}
 use Rattle.sl_report_forms.proofs.ShownSteps.{has_view_by}
 use Rattle.sl_report_forms.proofs.markdown_form.put_sheets.Goals as goal
@@ -13,11 +13,11 @@ loop-sheet-preserved c =
     let seen = has_view_by s c.in_ok-shown.shown c.in_ok-shown.ensures ∙ ap not (sym c.is_empty.ensures) in
     elim c.if-not-is_empty.branch [
       | then-not-is_empty w ↦
-          subst (λ o. Becomes c.args.out.now o (with_blocks (markdown_blocks (take (i + 1) sheets)))) (sym w.out-is) (
-          sheet_more sheets i s _ _ _ c.loop-sheet-test.true c.sheet-item.is (seen ∙ ap not w.if-not-is_empty.true) c.loop-sheet.invariant
+          subst (λ o. Becomes c.args.out.now o (with_blocks (blocks_of markdown_block (take (i + 1) sheets)))) (sym w.out-is) (
+          sheet_more markdown_block (λ title v. omega arith) sheets i s _ _ _ c.loop-sheet-test.true c.sheet-item.is (seen ∙ ap not w.if-not-is_empty.true) c.loop-sheet.invariant
           (subst (λ v. Becomes c.loop-sheet.out w.put_shown.new.out (with_blocks (markdown_block (string_bytes s.title) v ∷ []))) c.in_ok-shown.ensures
           (rw w.as_str.ensures.value at w.put_shown.ensures)))
       | else-not-is_empty w ↦
-          subst (λ o. Becomes c.args.out.now o (with_blocks (markdown_blocks (take (i + 1) sheets)))) (sym w.out-is) (
-          sheet_same sheets i s _ _ c.loop-sheet-test.true c.sheet-item.is (seen ∙ ap not w.if-not-is_empty.false) c.loop-sheet.invariant)
+          subst (λ o. Becomes c.args.out.now o (with_blocks (blocks_of markdown_block (take (i + 1) sheets)))) (sym w.out-is) (
+          sheet_same markdown_block sheets i s _ _ c.loop-sheet-test.true c.sheet-item.is (seen ∙ ap not w.if-not-is_empty.false) c.loop-sheet.invariant)
     ]

@@ -5,6 +5,6 @@ use Rattle.sl_report_parties.proofs.press.left_out.Goals as goal
 
 pub returns : goal.returns
 returns c =
-    subst (λ xs. AreByGreatest (λ s. s.part.votes.valid) xs c.sort_by_key.new.self.items) c.in_ok-found.ensures
-    (greatest_first (λ s. s.part.votes.valid) c.in_ok-found.found.items c.sort_by_key.new.self.items c.in_ok-sort_by_key.ensures.permutation
-    c.in_ok-sort_by_key.ensures.sorted c.in_ok-sort_by_key.ensures.stable (λ f a r g h. search rules))
+    subst (λ xs. AreByGreatest (λ s. s.part.votes.valid) xs c.sort_by.new.self.items) c.in_ok-found.ensures
+    (greatest_first (λ s. s.part.votes.valid) c.in_ok-found.found.items c.sort_by.new.self.items c.in_ok-sort_by.ensures.permutation
+    c.in_ok-sort_by.ensures.sorted c.in_ok-sort_by.ensures.stable (λ f a r g h. search rules))

@@ -1,5 +1,5 @@
 use Rattle.std.proofs.Common.{OnOk, subst, ◌∙◌}
-use Rattle.sl_report_results.specs.Scopes.{Adds}
+use Rattle.sl_report_results.specs.inner.MoreScopes.{Adds}
 use Rattle.sl_report_results.proofs.distributed.push_scope.Goals as goal
 
 pub returns : goal.returns

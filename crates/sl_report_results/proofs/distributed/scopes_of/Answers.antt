@@ -3,9 +3,10 @@ use Rattle.std.specs.List.{AllZip}
 use Rattle.std.proofs.lemmas.List.{take_all}
 use Rattle.sl_report_results.proofs.ScopeSteps.{same_shape, scope_more, scope_within, scopes_long}
 use Rattle.sl_report_results.specs.Places.{IsScope, items_in, scope_count}
-use Rattle.sl_report_results.specs.Scopes.{Adds, IsScopeOf, has_entry, scope_entries}
+use Rattle.sl_report_results.specs.Scopes.{IsScopeOf, has_entry, scope_entries}
 use Rattle.sl_report_results.specs.StageScopes.{name_of}
 use Rattle.sl_report_results.specs.inner.Drawn.{given_by}
+use Rattle.sl_report_results.specs.inner.MoreScopes.{Adds}
 use Rattle.sl_report_results.specs.inner.Tables.{AreWon}
 use Rattle.sl_report_results.specs.inner.Within.{shape_in}
 use Rattle.sl_law_meaning.specs.meaning.Scopes.{scopes}

@@ -1,0 +1,6 @@
+use Rattle.std.proofs.Common.{replicate}
+use Rattle.sl_report_forms.specs.Drafts.{Grows}
+use Rattle.sl_report_forms.proofs.text_form.put_blanks.Given as goal
+
+abbrev pub invariant-loop : goal.invariant-loop
+invariant-loop l = Grows l.fn.out l.out (replicate l.counter 32)
