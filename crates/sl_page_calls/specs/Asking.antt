@@ -7,7 +7,7 @@ use Rattle.sl_page_calls.specs.declared.asked.Word.{Word}
 use Rattle.sl_page_calls.specs.declared.handed.Handed.{Handed}
 use Rattle.sl_report_forms.specs.declared.heading.Heading.{Heading}
 use Rattle.sl_report_tables.specs.declared.answer.Answer.{Answer as Sheets}
-use Rattle.sl_report_tables.specs.declared.answer.Shape.{Shape}
+use Rattle.sl_report_forms.specs.declared.shape.Shape.{Shape}
 use Rattle.sl_terminal_commands.specs.Replies.{IsReplyTo, Says}
 use Rattle.sl_terminal_commands.specs.declared.reply.Made.{Made}
 use Rattle.sl_terminal_commands.specs.declared.reply.Reply.{Reply}

@@ -8,8 +8,8 @@ use Rattle.sl_count_inputs.specs.Books.{BookInput, library, text}
 use Rattle.sl_count_inputs.specs.declared.limits.TheConstants.{MAX_BOOK_BYTES, MAX_RETURNS_BYTES}
 use Rattle.sl_laws.specs.Books.{law_text}
 use Rattle.sl_report_forms.specs.declared.heading.DigestedInput.{DigestedInput}
-use Rattle.sl_report_tables.specs.declared.answer.Shape.TheVariants as shape
-use Rattle.sl_report_tables.specs.declared.answer.Shape.{Shape}
+use Rattle.sl_report_forms.specs.declared.shape.Shape.TheVariants as shape
+use Rattle.sl_report_forms.specs.declared.shape.Shape.{Shape}
 
 -- of bytes within a limit, and none of more
 abbrev pub whole_digest : ℕ → List ℕ → List (List ℕ)

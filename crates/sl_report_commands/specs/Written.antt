@@ -14,7 +14,7 @@ use Rattle.sl_report_commands.specs.Statuses.{is_stopped}
 use Rattle.sl_report_commands.specs.declared.written.Style.{Style}
 use Rattle.sl_report_forms.specs.declared.heading.Heading.{Heading}
 use Rattle.sl_report_tables.specs.declared.answer.Answer.{Answer}
-use Rattle.sl_report_tables.specs.declared.answer.Shape.{Shape}
+use Rattle.sl_report_forms.specs.declared.shape.Shape.{Shape}
 use Rattle.sl_report_tables.specs.declared.counts.Show.TheVariants.{Report, Seats, Short, Stages, Steps}
 use Rattle.sl_report_tables.specs.declared.counts.Show.{Show}
 

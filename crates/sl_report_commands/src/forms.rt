@@ -4,11 +4,11 @@ ghost use Rattle.std.specs.Prelude.{IfOk, List, ⊤, ℕ};
 ghost use Rattle.sl_report_forms.specs.declared.heading.Heading.{Heading as Headed};
 ghost use Rattle.sl_report_tables.specs.Answers.{IsAnswerText};
 ghost use Rattle.sl_report_tables.specs.declared.answer.Answer.{Answer as Answered};
-ghost use Rattle.sl_report_tables.specs.declared.answer.Shape.{Shape as Shaped};
+ghost use Rattle.sl_report_forms.specs.declared.shape.Shape.{Shape as Shaped};
 
 use sl_base_quotients::NoMemory;
-use sl_report_forms::Heading;
-use sl_report_tables::{Answer, Shape};
+use sl_report_forms::{Heading, Shape};
+use sl_report_tables::Answer;
 use std::alloc::Global;
 
 /// How answers are written. What text an answer has is known to a proof by this trait's relation alone. So whoever writes the text of an answer, whatever

@@ -21,9 +21,9 @@ pub use forms::{AllForms, Forms};
 pub use further::add_refused;
 pub use method::book_by;
 pub use sl_explain_texts::Language;
-pub use sl_report_forms::{DigestedInput, Told};
+pub use sl_report_forms::{DigestedInput, Shape, Told};
 pub use sl_report_tables::{
-    Answer, EarlierParty, FullNames, MAX_BEFORE_BYTES, MAX_NAMES_BYTES, Shape, Show, earlier_in,
+    Answer, EarlierParty, FullNames, MAX_BEFORE_BYTES, MAX_NAMES_BYTES, Show, earlier_in,
     method_of, method_word, names_in, names_of,
 };
 pub use sums::{BookVerdict, ReturnsVerdict, total_judged};

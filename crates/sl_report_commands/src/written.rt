@@ -17,8 +17,8 @@ use sl_count_calls::Judged;
 use sl_count_inputs::{DeskError, Input, RefusedBook, RefusedElection, Verdict};
 use sl_explain_calls::{Explained, explain_book, explain_election, explain_judged};
 use sl_explain_texts::{Explanation, Language};
-use sl_report_forms::{DigestedInput, Heading, Told, json_text};
-use sl_report_tables::{Answer, Shape, Show};
+use sl_report_forms::{DigestedInput, Heading, Shape, Told, json_text};
+use sl_report_tables::{Answer, Show};
 use std::alloc::Global;
 
 // The exit status after an error.

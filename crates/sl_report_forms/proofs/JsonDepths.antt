@@ -49,6 +49,8 @@ of_cell : (c : Cell) → depth (cell_value c) ≤ 1
 of_cell cell.Empty = omega arith
 of_cell (cell.Text words) = omega arith
 of_cell (cell.Number n) = omega arith
+of_cell (cell.Decimal n) = omega arith
+of_cell (cell.Fraction num den) = omega arith
 of_cell (cell.Change n before) = omega arith
 of_cell (cell.Word key shown) = omega arith
 of_cell (cell.Flag is shown) = omega arith

@@ -8,6 +8,8 @@ use Rattle.serde_json.specs.View.{view, items_of, members_view}
 use Rattle.serde_json.specs.declared.value.Value.{Value}
 use Rattle.sl_explain_texts.specs.Codes.{code_word}
 use Rattle.sl_explain_texts.specs.declared.program.TheConstants.{VERSION}
+use Rattle.sl_law_margins.specs.Decimals.{number_text}
+use Rattle.sl_report_forms.specs.CellTexts.{fraction_text}
 use Rattle.sl_report_forms.specs.declared.cell.Cell.TheVariants as cell
 use Rattle.sl_report_forms.specs.declared.cell.Cell.{Cell}
 use Rattle.sl_report_forms.specs.declared.heading.DigestedInput.{DigestedInput}
@@ -38,6 +40,8 @@ abbrev pub cell_value : Cell → Data
 cell_value cell.Empty = null
 cell_value (cell.Text words) = string (string_bytes words)
 cell_value (cell.Number n) = number (unsigned n)
+cell_value (cell.Decimal n) = string (number_text n)
+cell_value (cell.Fraction num den) = string (fraction_text num den)
 cell_value (cell.Change n before) = number (change n before)
 cell_value (cell.Word key shown) = string (string_bytes key)
 cell_value (cell.Flag is shown) = boolean is

@@ -45,6 +45,7 @@ fn cell_value(alloc: Global, cell: &Cell) -> Result<Value, NoMemory>
         Cell::Empty => Ok(Value::Null),
         Cell::Text(text) => text_value(alloc, text.as_str()),
         Cell::Number(number) => Ok(Value::Number(Number::from(*number))),
+        Cell::Decimal(_) | Cell::Fraction(..) => Ok(Value::String(cell.key(alloc)?)),
         Cell::Change(number, before) => Ok(Value::Number(change_number(*number, *before))),
         Cell::Word { key, .. } => text_value(alloc, key.as_str()),
         Cell::Flag { is, .. } => Ok(Value::Bool(*is)),

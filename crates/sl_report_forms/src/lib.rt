@@ -1,9 +1,9 @@
 //! Sheets of rows, and their forms: aligned text, Markdown, HTML, comma-separated values, and JSON.
 //!
-//! Stands on `sl_explain_texts`; used by the room report. Proved: what stands in the cells of each row; the text of a cell as
-//! a program and as a person read it; CSV and JSON, in which `csv` and `serde_json` read again what was written; Markdown, HTML
-//! and aligned text, byte for byte; and the digest of an input. Only tested: the title of a command in HTML, and the words of an
-//! explanation in JSON.
+//! Stands on `sl_explain_texts` and `sl_law_margins`; used by the rooms report and terminal. Proved: what stands in the cells of each row; the
+//! text of a cell as a program and as a person read it; CSV and JSON, in which `csv` and `serde_json` read again what was
+//! written; Markdown, HTML and aligned text, byte for byte; and the digest of an input. Only tested: the title of a command in
+//! HTML, and the words of an explanation in JSON.
 //!
 //! Where an error is `NoMemory` alone, memory ran out, and nothing else is wrong.
 #![tactic(auto)]
@@ -18,6 +18,7 @@ mod json_form;
 mod json_heading;
 mod json_values;
 mod markdown_form;
+mod shape;
 mod sheet;
 mod shown;
 mod text_form;
@@ -28,5 +29,6 @@ pub use heading::{DigestedInput, Heading, Told};
 pub use html_form::html_text;
 pub use json_form::json_text;
 pub use markdown_form::markdown_text;
+pub use shape::Shape;
 pub use sheet::{Head, Look, Row, Sheet};
 pub use text_form::aligned_text;

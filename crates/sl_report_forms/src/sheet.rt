@@ -1,11 +1,12 @@
 //! Sheets: a key, a title, the heads of the columns, and rows.
 
 ghost use Rattle.std.specs.Prelude.{◌≡◌, ◌++◌, ◌∷◌, [], IfOk, OnOk, string_bytes};
-ghost use Rattle.sl_report_forms.specs.Cells.{a_change, a_flag, a_number, a_text, content_of, known, nothing};
+ghost use Rattle.sl_report_forms.specs.Cells.{a_change, a_decimal, a_flag, a_fraction, a_number, a_text, content_of, known, known_decimal, nothing};
 ghost use Rattle.sl_report_forms.specs.Tables.{blank_table, contents_of, table_of, with_columns, with_rows};
 
 use crate::cell::Cell;
 use sl_base_quotients::NoMemory;
+use sl_law_margins::Decimal;
 use std::alloc::Global;
 
 /// How a column looks in aligned text.
@@ -142,6 +143,30 @@ impl Row {
             Some(number) => self.push(Cell::Number(number)),
             None => self.push(Cell::Empty),
         }
+    }
+
+    /// Adds a decimal number.
+    pub fn decimal(&mut self, number: Decimal) -> Result<(), NoMemory>
+        ensures { OnOk result (contents_of self.new.cells.items ≡ contents_of self.old.cells.items ++ a_decimal number ∷ []) }
+    {
+        self.push(Cell::Decimal(number))
+    }
+
+    /// Adds a decimal number, or an empty cell.
+    pub fn maybe_decimal(&mut self, number: Option<Decimal>) -> Result<(), NoMemory>
+        ensures { OnOk result (contents_of self.new.cells.items ≡ contents_of self.old.cells.items ++ known_decimal number ∷ []) }
+    {
+        match number {
+            Some(number) => self.push(Cell::Decimal(number)),
+            None => self.push(Cell::Empty),
+        }
+    }
+
+    /// Adds a fraction by its two numbers.
+    pub fn fraction(&mut self, num: u128, den: u128) -> Result<(), NoMemory>
+        ensures { OnOk result (contents_of self.new.cells.items ≡ contents_of self.old.cells.items ++ a_fraction num den ∷ []) }
+    {
+        self.push(Cell::Fraction(num, den))
     }
 
     /// Adds a word, as programs know it and as a person reads it.

@@ -10,3 +10,4 @@ pub mod DrawnLots
 pub mod Pushed
 pub mod Tabled
 pub mod OwnPlaces
+pub mod Cuts

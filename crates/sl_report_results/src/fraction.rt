@@ -1,12 +1,10 @@
 //! Fractions, and their decimals.
 
-ghost use Rattle.std.specs.Prelude.{◌≡◌, ◌*◌, ◌^◌, IfSome, is_some};
-ghost use Rattle.sl_law_margins.specs.Decimals.{IsCut};
-ghost use Rattle.sl_report_results.specs.Fractions.{has_decimals, percent_half_up};
+ghost use Rattle.std.specs.Prelude.{◌≡◌, ◌*◌, ◌^◌, ◌≤◌};
+ghost use Rattle.sl_report_results.specs.Fractions.{decimal_of, percent, percent_half_up};
 
-use sl_base_quotients::{MAX_NUMERATOR, NoMemory, Ratio};
+use sl_base_quotients::{MAX_NUMERATOR, Ratio};
 use sl_law_margins::{Decimal, MAX_PLACES, cut};
-use std::alloc::Global;
 
 /// A fraction, kept as it came and not reduced.
 #[derive(Clone, Copy)]
@@ -18,7 +16,7 @@ pub struct Fraction {
 impl Fraction {
     /// So many of so many, in parts of a hundred.
     pub fn percent(part: u64, whole: u64) -> Fraction
-        ensures { result ≡ record { num = 100 * part; den = whole } }
+        ensures { result ≡ percent part whole }
     {
         Fraction {
             num: u128::from(part) * 100,
@@ -58,7 +56,8 @@ impl Fraction {
 
     /// A quotient.
     pub fn of_claim(claim: Ratio) -> Fraction
-        ensures { result ≡ record { num = claim.num; den = claim.den } }
+        ensures value { result ≡ record { num = claim.num; den = claim.den } }
+        ensures fits { result.num ≤ MAX_NUMERATOR }
     {
         Fraction {
             num: claim.num(),
@@ -67,20 +66,13 @@ impl Fraction {
     }
 
     /// The fraction in decimals of so many places, cut and not rounded; `None` without a denominator, or past the range of quotients.
+    #[tactic(auto, using(crate::proofs::Cuts::is_cut))]
     pub fn decimal(&self, places: u32) -> Option<Decimal>
-        ensures cut { IfSome result (λ d. IsCut (record { num = self.now.num; den = self.now.den }) places d) }
-        ensures known { is_some result ≡ has_decimals self.now.num self.now.den places }
+        ensures { result ≡ decimal_of self.now places }
     {
         if self.num > MAX_NUMERATOR || self.den == 0 || places > MAX_PLACES {
             return None;
         }
         Some(cut(self.num, self.den, places))
-    }
-
-    /// Its text, the two numbers separated by a slash.
-    pub fn text(&self, alloc: Global) -> Result<String, NoMemory> {
-        let num = self.num;
-        let den = self.den;
-        Ok(format!(in alloc; "{num}/{den}")?)
     }
 }

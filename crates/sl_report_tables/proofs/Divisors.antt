@@ -1,37 +1,34 @@
 -- Two numbers divided by their greatest common divisor.
 use Rattle.std.specs.Int.{IsGcd, ◌∣◌}
-use Rattle.std.proofs.Common.{◌≡◌, ◌∙◌, ℕ, zero, suc, ◌*◌, ◌/◌, ◌<◌, ap, arith, subst, sym}
-use Rattle.std.proofs.Math.Nat.{div-mul_cancel, dvd_of_mul-dvd-mul_right, mul-dvd-mul_right, one-dvd, eq-zero_of_zero-dvd}
+use Rattle.std.proofs.Common.{◌≡◌, ℕ, zero, suc, ◌/◌, ◌%◌, ◌<◌, ◌≤◌, ◌⊎◌, Bool, true, false, ap, arith, inl, inr, refl, subst, sym}
+use Rattle.std.specs.Prelude.{◌==◌}
+use Rattle.std.proofs.Math.Nat.{eq-zero_of_zero-dvd}
+use Rattle.std.proofs.lemmas.Bool.{cases_lt, eqb-false, eqb-true}
+use Rattle.std.proofs.lemmas.Nat.Gcd.{dvd_of_mod-eq-zero, le_of_dvd, mod-eq-zero_of_dvd}
+use Rattle.sl_report_results.specs.declared.fraction.Fraction.{Fraction}
+use Rattle.sl_report_tables.specs.Lowest.{common_up_to, lowest_of}
 
-module _ (a b g : ℕ) (some : 0 < b) (h : IsGcd a b g) where
-  pub divisor_some : 0 < g
-  divisor_some = go g h.1
-    where
-      go : (n : ℕ) → n ∣ b → 0 < n
-      go zero d = absurd (let none = eq-zero_of_zero-dvd d in omega (arith, some, none))
-      go (suc n) d = omega arith
+pub divisor_some : (a b g : ℕ) → 0 < b → IsGcd a b g → 0 < g
+divisor_some a b zero some h = absurd (let none = eq-zero_of_zero-dvd h.1 in omega (arith, some, none))
+divisor_some a b (suc g) some h = omega arith
 
-  first : a / g * g ≡ a
-  first = div-mul_cancel g h.0
+-- a number that is too great for a divisor is passed by
+less : (n g x : ℕ) → g ≤ suc n → g ∣ x → (x % suc n == 0) ≡ false → g ≤ n
+less n g x le d not = go (cases_lt n g) where
+  go : (n < g) ⊎ (g ≤ n) → g ≤ n
+  go (inr le) = le
+  go (inl lt) = let e : g ≡ suc n = omega (arith, lt, le) in absurd (eqb-false (x % suc n) 0 not (mod-eq-zero_of_dvd (suc n) (subst (λ m. m ∣ x) e d)))
 
-  second : b / g * g ≡ b
-  second = div-mul_cancel g h.1
+common_is : (n a b g : ℕ) → 0 < g → g ≤ n → IsGcd a b g → common_up_to n a b ≡ g
+common_is zero a b g some le h = absurd (omega (arith, some, le))
+common_is (suc n) a b g some le h = go (a % suc n == 0) (b % suc n == 0) refl refl (λ within. common_is n a b g some within h) where
+  go : (x y : Bool) → (a % suc n == 0) ≡ x → (b % suc n == 0) ≡ y → (g ≤ n → common_up_to n a b ≡ g) → common_up_to (suc n) a b ≡ g
+  go true true p q next =
+      let both = h.2 (suc n) (dvd_of_mod-eq-zero (suc n) (eqb-true (a % suc n) 0 p)) (dvd_of_mod-eq-zero (suc n) (eqb-true (b % suc n) 0 q)) in
+      let within = le_of_dvd some both in
+      rw (p, q) (omega (arith, within, le))
+  go true false p q next = rw (p, q) (next (less n g b le h.1 q))
+  go false y p q next = rw p (next (less n g a le h.0 p))
 
-  pub same_value : a / g * b ≡ a * (b / g)
-  same_value =
-      let p = a / g in
-      let q = b / g in
-      let left : p * b ≡ p * (q * g) = ap (λ n. p * n) (sym second) in
-      let right : a * q ≡ p * g * q = ap (λ n. n * q) (sym first) in
-      left ∙ (omega arith) ∙ sym right
-
-  pub without_common : IsGcd (a / g) (b / g) 1
-  without_common = (
-    one-dvd (a / g),
-    one-dvd (b / g),
-    λ d p q.
-        let in_a : d * g ∣ a = subst (λ n. d * g ∣ n) first (mul-dvd-mul_right d p g) in
-        let in_b : d * g ∣ b = subst (λ n. d * g ∣ n) second (mul-dvd-mul_right d q g) in
-        let one : 1 * g ≡ g = omega arith in
-        dvd_of_mul-dvd-mul_right d divisor_some (subst (λ n. d * g ∣ n) (sym one) (h.2 (d * g) in_a in_b)),
-  )
+pub lowest_is : (f : Fraction) (g : ℕ) → 0 < f.den → IsGcd f.num f.den g → record { num = f.num / g; den = f.den / g } ≡ lowest_of f
+lowest_is f g some h = ap (λ n. record { num = f.num / n; den = f.den / n }) (sym (common_is f.den f.num f.den g (divisor_some f.num f.den g some h) (le_of_dvd some h.1) h))

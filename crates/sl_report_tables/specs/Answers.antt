@@ -12,8 +12,8 @@ use Rattle.sl_report_forms.specs.TextForm.{aligned_of}
 use Rattle.sl_report_forms.specs.Tables.{Table, table_of}
 use Rattle.sl_report_forms.specs.declared.heading.Heading.{Heading}
 use Rattle.sl_report_tables.specs.declared.answer.Answer.{Answer}
-use Rattle.sl_report_tables.specs.declared.answer.Shape.TheVariants as shape
-use Rattle.sl_report_tables.specs.declared.answer.Shape.{Shape}
+use Rattle.sl_report_forms.specs.declared.shape.Shape.TheVariants as shape
+use Rattle.sl_report_forms.specs.declared.shape.Shape.{Shape}
 
 -- the tables of an answer
 abbrev pub tables_of : Answer → List Table

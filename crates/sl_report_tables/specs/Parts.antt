@@ -1,8 +1,9 @@
 -- What stands in the cells of the parts of which rows are made (docs/report.md).
-use Rattle.std.specs.Prelude.{ℕ, ◌*◌, Bool, List, [], ◌∷◌, Option, Some, None, is_some, option_and_then, slice_get, if◌then◌else◌}
-use Rattle.sl_report_forms.specs.Cells.{Content, a_change, a_flag, a_number, a_text, known, nothing}
-use Rattle.sl_report_results.specs.Fractions.{has_decimals, percent_half_up}
+use Rattle.std.specs.Prelude.{ℕ, Bool, List, [], ◌∷◌, Option, Some, None, is_some, option_and_then, option_map, slice_get, unwrap_or, if◌then◌else◌}
+use Rattle.sl_report_forms.specs.Cells.{Content, a_change, a_decimal, a_flag, a_fraction, a_number, a_text, known, known_decimal, nothing}
+use Rattle.sl_report_results.specs.Fractions.{decimal_of, percent, percent_half_up}
 use Rattle.sl_report_results.specs.declared.fraction.Fraction.{Fraction}
+use Rattle.sl_report_tables.specs.Lowest.{lowest_of}
 use Rattle.sl_report_tables.specs.declared.rows.Part.TheVariants as part
 use Rattle.sl_report_tables.specs.declared.rows.Part.{Part}
 use Rattle.sl_law_meaning.specs.declared.book.Cond.{Cond}
@@ -16,18 +17,23 @@ a_name = a_text ∷ a_text ∷ []
 abbrev pub two_empty : List Content
 two_empty = nothing ∷ nothing ∷ []
 
--- so many of so many in percent: in decimals and exact, where there are decimals
+-- a fraction in lowest terms
+abbrev pub exact_cell : Fraction → Content
+exact_cell f = a_fraction (lowest_of f).num (lowest_of f).den
+
+-- so many of so many in percent: in three places and exact, where there are decimals
 abbrev pub percent_cells : ℕ → ℕ → List Content
-percent_cells of_them all = if has_decimals (100 * of_them) all 3 then a_name else two_empty
+percent_cells of_them all =
+    let f = percent of_them all in unwrap_or (option_map (λ cut. a_decimal cut ∷ exact_cell f ∷ []) (decimal_of f 3)) two_empty
 
 -- so many of so many in percent, rounded to one place
 abbrev pub rounded_cell : ℕ → ℕ → Content
-rounded_cell of_them all = if has_decimals (percent_half_up of_them all).num (percent_half_up of_them all).den 1 then a_text else nothing
+rounded_cell of_them all = known_decimal (decimal_of (percent_half_up of_them all) 1)
 
--- a fraction, where there is one: in decimals, where there are some, and exact
+-- a fraction, where there is one: in four places, where there are decimals, and exact
 abbrev pub fraction_cells : Option Fraction → List Content
 fraction_cells None = two_empty
-fraction_cells (Some f) = (if has_decimals f.num f.den 4 then a_text else nothing) ∷ a_text ∷ []
+fraction_cells (Some f) = known_decimal (decimal_of f 4) ∷ exact_cell f ∷ []
 
 -- the condition of that number, where there is one
 abbrev pub condition_cell : List Cond → Option ℕ → Content

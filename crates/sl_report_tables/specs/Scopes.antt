@@ -1,9 +1,11 @@
 -- The tables of scopes, and of the entries of each (docs/report.md).
-use Rattle.std.specs.Prelude.{ℕ, Bool, ◌||◌, List, [], ◌∷◌, ◌++◌, codes, is_some, map, if◌then◌else◌}
-use Rattle.sl_report_forms.specs.Cells.{Content, a_flag, a_number, a_text, known, nothing}
+use Rattle.std.specs.Prelude.{ℕ, Bool, ◌==◌, List, [], ◌∷◌, ◌++◌, Option, Some, None, codes, is_some, map, if◌then◌else◌}
+use Rattle.sl_base_quotients.specs.Quotient.{Quotient}
+use Rattle.sl_report_forms.specs.Cells.{Content, a_decimal, a_flag, a_fraction, a_number, a_text, known, known_decimal, nothing}
 use Rattle.sl_report_forms.specs.Tables.{Table}
 use Rattle.sl_report_results.specs.declared.scopes.Entry.{Entry}
 use Rattle.sl_report_results.specs.declared.scopes.Scoped.{Scoped}
+use Rattle.sl_report_tables.specs.Lowest.{lowest_of}
 use Rattle.sl_report_tables.specs.Parts.{a_name, fraction_cells, known_flag, sides_of}
 
 -- the names of some entries in one cell, where there are some
@@ -11,9 +13,15 @@ abbrev pub names_cell : List ℕ → Content
 names_cell [] = nothing
 names_cell (number ∷ numbers) = a_text
 
--- a divisor, where there is one: between the claims, or on the border of equal ones
+-- the divisor on a border of equal claims, where there is one: a whole number, or a fraction
+abbrev pub border_cell : Option Quotient → Content
+border_cell None = nothing
+border_cell (Some claim) =
+    let f = lowest_of (record { num = claim.num; den = claim.den }) in if f.den == 1 then a_decimal (record { digits = f.num; places = 0 }) else a_fraction f.num f.den
+
+-- the divisor between the claims, where there is one, or else that on the border
 abbrev pub divisor_cell : Scoped → Content
-divisor_cell s = if is_some s.divisor || is_some s.border then a_text else nothing
+divisor_cell s = if is_some s.divisor then known_decimal s.divisor else border_cell s.border
 
 -- the divisor and the quota, who won the last seat and has the next claim, and whether a lot decided
 abbrev pub margin_cells : Scoped → List Content

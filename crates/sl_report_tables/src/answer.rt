@@ -11,7 +11,7 @@ ghost use Rattle.sl_report_tables.specs.Answers.{IsAnswerText, IsRefusal, IsRefu
 use sl_base_quotients::NoMemory;
 use sl_count_inputs::Status;
 use sl_report_forms::{
-    Heading, Sheet, aligned_text, comma_text, html_text, json_text, markdown_text,
+    Heading, Shape, Sheet, aligned_text, comma_text, html_text, json_text, markdown_text,
 };
 use std::alloc::Global;
 
@@ -21,16 +21,6 @@ const NAMES_FORM: &str =
 
 // What an earlier seat table holds, as the line says that refuses one.
 const BEFORE_FORM: &str = "each line is one that `count` writes, such as `party CDU 208 172`";
-
-/// The form of an answer's text.
-#[derive(Clone, Copy)]
-pub enum Shape {
-    Text,
-    Markdown,
-    Html,
-    Json,
-    Comma,
-}
 
 /// The sheets that a command shows, the status that stands for them, and the line of a refusal or of a legal fault, with its end; no bytes where
 /// there is neither. A refusal has no sheets.

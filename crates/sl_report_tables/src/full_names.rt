@@ -97,6 +97,11 @@ impl FullNames {
         }
     }
 
+    /// Whether there is no full name.
+    pub fn is_empty(&self) -> bool {
+        self.names.is_empty()
+    }
+
     /// The full name of a short one, if there is one.
     pub fn full(&self, short: &str) -> Option<&str> {
         match self.names.get(short) {

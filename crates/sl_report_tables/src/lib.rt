@@ -35,7 +35,7 @@ mod totals;
 mod warnings;
 mod words;
 
-pub use answer::{Answer, Shape};
+pub use answer::Answer;
 pub use cases::{MAX_BEFORE_BYTES, MAX_NAMES_BYTES, earlier_in, names_in, names_of};
 pub use compare::Judged;
 pub use comparison::comparison_answer;

@@ -1,11 +1,10 @@
 //! Fractions in lowest terms.
 
 ghost use Rattle.std.specs.Int.{IsGcd};
-ghost use Rattle.sl_report_tables.specs.Lowest.{IsLowest};
+ghost use Rattle.std.specs.Prelude.{◌≡◌};
+ghost use Rattle.sl_report_tables.specs.Lowest.{lowest_of};
 
-use sl_base_quotients::NoMemory;
 use sl_report_results::Fraction;
-use std::alloc::Global;
 
 // The greatest common divisor of two numbers, as Euclid finds it.
 fn common_divisor(first: u128, second: u128) -> u128
@@ -23,7 +22,7 @@ fn common_divisor(first: u128, second: u128) -> u128
 
 /// The fraction of the same value whose two numbers have no common divisor but 1. One without a denominator stays as it is.
 pub(crate) fn lowest(fraction: Fraction) -> Fraction
-    ensures { IsLowest fraction result }
+    ensures { result ≡ lowest_of fraction }
 {
     let Fraction { num, den } = fraction;
     if den == 0 {
@@ -34,14 +33,4 @@ pub(crate) fn lowest(fraction: Fraction) -> Fraction
         num: num / divisor,
         den: den / divisor,
     }
-}
-
-/// The text of a fraction in lowest terms; of a whole number its digits alone.
-pub(crate) fn lowest_text(alloc: Global, fraction: Fraction) -> Result<String, NoMemory> {
-    let lowest = lowest(fraction);
-    if lowest.den != 1 {
-        return lowest.text(alloc);
-    }
-    let whole = lowest.num;
-    Ok(format!(in alloc; "{whole}")?)
 }

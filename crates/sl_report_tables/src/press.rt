@@ -32,7 +32,7 @@ use sl_stages::{Book, Cond, Scope, Table};
 use std::alloc::Global;
 
 const PRESS: [Form; 9] = [
-    ("party", ColumnHead::Party, Look::Text(12)),
+    ("party", ColumnHead::ShortName, Look::Text(12)),
     ("party_name", ColumnHead::Name, Look::Text(30)),
     ("seats", ColumnHead::Seats, Look::Number),
     ("before", ColumnHead::Before, Look::Number),
@@ -44,7 +44,7 @@ const PRESS: [Form; 9] = [
 ];
 
 const LEFT_OUT: [Form; 6] = [
-    ("party", ColumnHead::Party, Look::Text(12)),
+    ("party", ColumnHead::ShortName, Look::Text(12)),
     ("party_name", ColumnHead::Name, Look::Text(30)),
     ("valid", ColumnHead::Votes, Look::Number),
     ("percent", ColumnHead::Percent, Look::Number),

@@ -4,7 +4,7 @@ ghost use Rattle.std.specs.Prelude.{◌≡◌, ◌*◌, ◌++◌, ◌∷◌, [],
 ghost use Rattle.sl_report_forms.specs.Cells.{a_flag, a_text, nothing};
 ghost use Rattle.sl_report_forms.specs.declared.sheet.Sheet.{Sheet};
 ghost use Rattle.sl_report_forms.specs.Tables.{blank_table, contents_of, table_of, with_columns, with_rows};
-ghost use Rattle.sl_report_tables.specs.Parts.{a_name, cells_of, condition_cell, fraction_cells, percent_cells, rounded_cell, sides_of, two_empty};
+ghost use Rattle.sl_report_tables.specs.Parts.{a_name, cells_of, condition_cell, exact_cell, fraction_cells, percent_cells, rounded_cell, sides_of, two_empty};
 
 use crate::lowest::lowest;
 use crate::naming::{Naming, land_name, party_name, win_name};
@@ -87,39 +87,41 @@ fn put_empty_pair(row: &mut Row) -> Result<(), NoMemory>
     row.empty()
 }
 
+// Adds a fraction in lowest terms.
+fn put_exact(row: &mut Row, fraction: Fraction) -> Result<(), NoMemory>
+    ensures { OnOk result (contents_of row.new.cells.items ≡ contents_of row.old.cells.items ++ exact_cell fraction ∷ []) }
+{
+    let exact = lowest(fraction);
+    row.fraction(exact.num, exact.den)
+}
+
 // Adds so many of so many in percent: cut in three places, and exact in lowest terms.
-fn put_percent(alloc: Global, row: &mut Row, part: u64, whole: u64) -> Result<(), NoMemory>
+fn put_percent(row: &mut Row, part: u64, whole: u64) -> Result<(), NoMemory>
     ensures { OnOk result (contents_of row.new.cells.items ≡ contents_of row.old.cells.items ++ percent_cells part whole) }
 {
     let percent = Fraction::percent(part, whole);
     match percent.decimal(3) {
         Some(cut) => {
-            put_own(row, cut.text(alloc))?;
-            put_own(row, lowest(percent).text(alloc))
+            row.decimal(cut)?;
+            put_exact(row, percent)
         }
         None => put_empty_pair(row),
     }
 }
 
 // Adds so many of so many in percent, rounded to one place.
-fn put_rounded(alloc: Global, row: &mut Row, part: u64, whole: u64) -> Result<(), NoMemory>
+fn put_rounded(row: &mut Row, part: u64, whole: u64) -> Result<(), NoMemory>
     ensures { OnOk result (contents_of row.new.cells.items ≡ contents_of row.old.cells.items ++ rounded_cell part whole ∷ []) }
 {
-    match Fraction::percent_half_up(part, whole).decimal(1) {
-        Some(rounded) => put_own(row, rounded.text(alloc)),
-        None => row.empty(),
-    }
+    row.maybe_decimal(Fraction::percent_half_up(part, whole).decimal(1))
 }
 
 // Adds a fraction: in decimals, where there are any, and exact in lowest terms.
-fn put_fraction(alloc: Global, row: &mut Row, fraction: Fraction) -> Result<(), NoMemory>
+fn put_fraction(row: &mut Row, fraction: Fraction) -> Result<(), NoMemory>
     ensures { OnOk result (contents_of row.new.cells.items ≡ contents_of row.old.cells.items ++ fraction_cells (Some fraction)) }
 {
-    match fraction.decimal(PLACES) {
-        Some(cut) => put_own(row, cut.text(alloc))?,
-        None => row.empty()?,
-    }
-    put_own(row, lowest(fraction).text(alloc))
+    row.maybe_decimal(fraction.decimal(PLACES))?;
+    put_exact(row, fraction)
 }
 
 // Adds a word, in English for programs and in the language for a person.
@@ -289,9 +291,9 @@ fn put(alloc: Global, row: &mut Row, naming: &Naming<'_>, part: Part<'_>) -> Res
         Part::Scope(scope) => put_own(row, naming.scope(alloc, scope)),
         Part::LongScope(scope) => put_long_scope(alloc, row, naming, scope),
         Part::Met(conditions, met) => put_met(alloc, row, naming, conditions, met),
-        Part::Percent(part, whole) => put_percent(alloc, row, part, whole),
-        Part::Rounded(part, whole) => put_rounded(alloc, row, part, whole),
-        Part::Fraction(Some(fraction)) => put_fraction(alloc, row, fraction),
+        Part::Percent(part, whole) => put_percent(row, part, whole),
+        Part::Rounded(part, whole) => put_rounded(row, part, whole),
+        Part::Fraction(Some(fraction)) => put_fraction(row, fraction),
         Part::Fraction(None) => put_empty_pair(row),
     }
 }
@@ -326,17 +328,28 @@ pub fn push_row(
     sheet.push(row)
 }
 
-// Adds columns of these forms, with what stands over them in a language.
+// What stands over a column, and its look. Without full names, the name of a party is shown once.
+fn shown_as(naming: &Naming<'_>, head: ColumnHead, look: Look) -> (ColumnHead, Look) {
+    match head {
+        ColumnHead::ShortName if naming.full.is_empty() => (head, Look::Hidden),
+        ColumnHead::Name if naming.full.is_empty() => (ColumnHead::Party, look),
+        _ => (head, look),
+    }
+}
+
+// Adds columns of these forms, with what stands over them.
 fn push_columns(
     alloc: Global,
     sheet: &mut Sheet,
-    language: Language,
+    naming: &Naming<'_>,
     forms: &[Form],
 ) -> Result<(), NoMemory>
     ensures { OnOk result (table_of sheet.new ≡ with_columns (table_of sheet.old) (map (λ f. f.0.now) forms.now)) }
 {
     for (key, head, look) in forms {
-        sheet.push_head(Head::new(alloc, key, head.in_language(language), *look)?)?;
+        let (head, look) = shown_as(naming, *head, *look);
+        let title = head.in_language(naming.language);
+        sheet.push_head(Head::new(alloc, key, title, look)?)?;
     }
     Ok(())
 }
@@ -352,7 +365,7 @@ pub(crate) fn blank(
     ensures { IfOk result (λ s. table_of s ≡ blank_table key.now (map (λ f. f.0.now) forms.now)) }
 {
     let mut sheet = Sheet::new(alloc, key, title);
-    push_columns(alloc, &mut sheet, naming.language, forms).and(Ok(sheet))
+    push_columns(alloc, &mut sheet, naming, forms).and(Ok(sheet))
 }
 
 /// A sheet without rows, under a title.

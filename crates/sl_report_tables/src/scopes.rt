@@ -1,17 +1,17 @@
 //! The sheets of scopes: a line for each, and the entries of each.
 
-ghost use Rattle.std.specs.Prelude.{◌≡◌, ◌++◌, ◌∷◌, [], IfOk, OnOk, if◌then◌else◌};
+ghost use Rattle.std.specs.Prelude.{◌≡◌, ◌++◌, ◌∷◌, [], IfOk, OnOk, Some, if◌then◌else◌};
 ghost use Rattle.sl_report_forms.specs.Cells.{a_number, nothing};
 ghost use Rattle.sl_report_forms.specs.Tables.{contents_of, table_of, with_rows};
 ghost use Rattle.sl_report_tables.specs.Parts.{cells_of};
-ghost use Rattle.sl_report_tables.specs.Scopes.{divisor_cell, entries_table, entry_row, margin_cells, names_cell, scope_row, scopes_table};
+ghost use Rattle.sl_report_tables.specs.Scopes.{border_cell, divisor_cell, entries_table, entry_row, margin_cells, names_cell, scope_row, scopes_table};
 
-use crate::lowest::lowest_text;
+use crate::lowest::lowest;
 use crate::naming::{Naming, stage_name};
 use crate::rows::{Form, Part, blank, push_name, push_row, put_parts, titled};
 use crate::texts::{ColumnHead, DISTRIBUTIONS_TITLE, STAGE_TITLE};
 use crate::words::method_word;
-use sl_base_quotients::NoMemory;
+use sl_base_quotients::{NoMemory, Ratio};
 use sl_report_forms::{Look, Row, Sheet};
 use sl_report_results::{Entry, Fraction, Scoped};
 use sl_stages::{Book, Scope};
@@ -102,13 +102,24 @@ fn put_names(
     row.names(short, long_names(alloc, naming, scoped, numbers)?)
 }
 
+// Adds the divisor on a border of equal claims: a whole number, or a fraction.
+fn put_border(row: &mut Row, claim: Ratio) -> Result<(), NoMemory>
+    ensures { OnOk result (contents_of row.new.cells.items ≡ contents_of row.old.cells.items ++ border_cell (Some claim) ∷ []) }
+{
+    let exact = lowest(Fraction::of_claim(claim));
+    match exact.decimal(0) {
+        Some(whole) if exact.den == 1 => row.decimal(whole),
+        _ => row.fraction(exact.num, exact.den),
+    }
+}
+
 // Adds the divisor of a scope, or that on the border of equal claims, if there is one.
-fn put_divisor(alloc: Global, row: &mut Row, scoped: &Scoped) -> Result<(), NoMemory>
+fn put_divisor(row: &mut Row, scoped: &Scoped) -> Result<(), NoMemory>
     ensures { OnOk result (contents_of row.new.cells.items ≡ contents_of row.old.cells.items ++ divisor_cell scoped.now ∷ []) }
 {
     match (&scoped.divisor, &scoped.border) {
-        (Some(divisor), _) => row.own(divisor.text(alloc)?),
-        (None, Some(border)) => row.own(lowest_text(alloc, Fraction::of_claim(*border))?),
+        (Some(divisor), _) => row.decimal(*divisor),
+        (None, Some(border)) => put_border(row, *border),
         (None, None) => row.empty(),
     }
 }
@@ -122,7 +133,7 @@ fn put_margins(
 ) -> Result<(), NoMemory>
     ensures { OnOk result (contents_of row.new.cells.items ≡ contents_of row.old.cells.items ++ margin_cells scoped.now) }
 {
-    put_divisor(alloc, row, scoped)?;
+    put_divisor(row, scoped)?;
     put_parts(alloc, row, naming, &[Part::Fraction(scoped.quota)])?;
     put_names(alloc, row, naming, scoped, scoped.last.as_slice())?;
     put_names(alloc, row, naming, scoped, scoped.next.as_slice())?;

@@ -32,7 +32,7 @@ use Rattle.sl_report_forms.specs.declared.heading.Heading.{Heading}
 use Rattle.sl_report_tables.specs.Answers.{IsRefusedBy}
 use Rattle.sl_report_tables.specs.Words.{method_written}
 use Rattle.sl_report_tables.specs.declared.answer.Answer.{Answer}
-use Rattle.sl_report_tables.specs.declared.answer.Shape.{Shape}
+use Rattle.sl_report_forms.specs.declared.shape.Shape.{Shape}
 use Rattle.sl_report_warnings.specs.Warnings.{warnings_of}
 use Rattle.sl_terminal_commands.proofs.Digested.{digests_on}
 use Rattle.sl_terminal_commands.proofs.Zips.{all_before, all_last, any_left, any_map, any_right, zip_append, zip_map, zip_parts, zip_through}

@@ -10,7 +10,7 @@ use Rattle.sl_explain_texts.specs.declared.code.FaultCode.{FaultCode}
 use Rattle.sl_explain_texts.specs.declared.language.Language.{Language}
 use Rattle.sl_report_forms.specs.declared.heading.Heading.{Heading}
 use Rattle.sl_report_tables.specs.declared.answer.Answer.{Answer}
-use Rattle.sl_report_tables.specs.declared.answer.Shape.{Shape}
+use Rattle.sl_report_forms.specs.declared.shape.Shape.{Shape}
 use Rattle.sl_terminal_commands.proofs.Warned.{nothing_warns}
 use Rattle.sl_terminal_commands.specs.Files.{IsSpared, Loses, MustStay, Spares}
 use Rattle.sl_terminal_commands.specs.Replies.{IsReplied, IsStopped}

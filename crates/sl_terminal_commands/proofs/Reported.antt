@@ -39,7 +39,7 @@ use Rattle.sl_report_parties.specs.declared.earlier.EarlierParty.{EarlierParty}
 use Rattle.sl_report_tables.specs.Earlier.{IsEarlierIn, is_no_table, is_refused_in, party_told, table_parties}
 use Rattle.sl_report_tables.specs.Reports.{beside}
 use Rattle.sl_report_tables.specs.declared.answer.Answer.{Answer}
-use Rattle.sl_report_tables.specs.declared.answer.Shape.{Shape}
+use Rattle.sl_report_forms.specs.declared.shape.Shape.{Shape}
 use Rattle.sl_report_tables.specs.declared.cases.TheConstants.{MAX_BEFORE_BYTES}
 use Rattle.sl_report_tables.specs.declared.counts.Show.{Show}
 use Rattle.sl_report_warnings.specs.Warnings.{warnings_of}

@@ -28,7 +28,7 @@ use Rattle.sl_report_forms.specs.declared.heading.Heading.{Heading}
 use Rattle.sl_report_tables.specs.Answers.{HasTables, IsRefusal, IsRefusedBy}
 use Rattle.sl_report_tables.specs.Words.{method_written}
 use Rattle.sl_report_tables.specs.declared.answer.Answer.{Answer}
-use Rattle.sl_report_tables.specs.declared.answer.Shape.{Shape}
+use Rattle.sl_report_forms.specs.declared.shape.Shape.{Shape}
 use Rattle.sl_report_warnings.specs.Warnings.{warnings_of}
 use Rattle.sl_terminal_commands.specs.Beside.{AreNames}
 use Rattle.sl_terminal_commands.specs.Said.{Said, fault, nothing, warned}

@@ -6,7 +6,7 @@ use Rattle.sl_explain_texts.specs.declared.code.FaultCode.{FaultCode}
 use Rattle.sl_explain_texts.specs.declared.language.Language.{Language}
 use Rattle.sl_report_forms.specs.declared.heading.Heading.{Heading}
 use Rattle.sl_report_tables.specs.declared.answer.Answer.{Answer as Sheets}
-use Rattle.sl_report_tables.specs.declared.answer.Shape.{Shape}
+use Rattle.sl_report_forms.specs.declared.shape.Shape.{Shape}
 use Rattle.sl_terminal_commands.specs.Files.{Spares, made_at}
 use Rattle.sl_terminal_commands.specs.Requests.{IsAnswerTo}
 use Rattle.sl_terminal_commands.specs.declared.answered.Answered.{Answered}

@@ -35,8 +35,7 @@ use Rattle.sl_report_parties.specs.declared.earlier.EarlierParty.{EarlierParty}
 use Rattle.sl_report_tables.specs.Earlier.{is_no_table, party_told, table_parties}
 use Rattle.sl_report_tables.specs.Reports.{beside}
 use Rattle.sl_report_tables.specs.declared.answer.Answer.{Answer}
-use Rattle.sl_report_tables.specs.declared.answer.Shape.TheVariants as shape
-use Rattle.sl_report_tables.specs.declared.answer.Shape.{Shape}
+use Rattle.sl_report_forms.specs.declared.shape.Shape.{Shape}
 use Rattle.sl_report_tables.specs.declared.cases.TheConstants.{MAX_BEFORE_BYTES}
 use Rattle.sl_report_tables.specs.declared.counts.Show.TheVariants as show
 use Rattle.sl_report_tables.specs.declared.counts.Show.{Show as Shown}
@@ -53,8 +52,6 @@ use Rattle.sl_terminal_words.specs.declared.command_line.Show.TheVariants.{Seats
 use Rattle.sl_terminal_words.specs.declared.command_line.Show.{Show}
 use Rattle.sl_terminal_words.specs.declared.reports.Report.TheVariants as what
 use Rattle.sl_terminal_words.specs.declared.reports.Report.{Report}
-use Rattle.sl_terminal_words.specs.declared.reports.ReportForm.TheVariants as form
-use Rattle.sl_terminal_words.specs.declared.reports.ReportForm.{ReportForm}
 
 -- what is shown of a count: its seat table, its steps, or the column of a stage
 abbrev pub IsShown : Show → BookInput → List ℕ → Status → List ℕ → Type 0
@@ -62,16 +59,9 @@ IsShown Seats = IsOutput ShowsSeats
 IsShown Steps = IsOutput ShowsSteps
 IsShown (Stage name) = IsStageOutput name.now
 
--- the form that is asked for
-abbrev pub shape_of : ReportForm → Shape
-shape_of form.Text = shape.Text
-shape_of form.Markdown = shape.Markdown
-shape_of form.Html = shape.Html
-shape_of form.Json = shape.Json
-shape_of form.Comma = shape.Comma
-
-abbrev pub style_of : ReportForm → Language → Style
-style_of form language = record { shape = shape_of form; language = language }
+-- how a report is written, in a form and in a language
+abbrev pub style_of : Shape → Language → Style
+style_of shape language = record { shape = shape; language = language }
 
 -- the parties of an earlier seat table, if one is given: where it is not refused they are those that it tells
 abbrev pub AreTold : Option (Bor (List EarlierParty)) → List ℕ → Type 0

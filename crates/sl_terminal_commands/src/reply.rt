@@ -13,9 +13,9 @@ use crate::speech::Speech;
 use crate::telling::{Said, Speaker};
 use sl_base_quotients::NoMemory;
 use sl_explain_texts::Language;
-use sl_report_commands::Forms;
+use sl_report_commands::{Forms, Shape};
 use sl_terminal_outside::Outside;
-use sl_terminal_words::{Answer, Asked, ReportForm, Request, out_of_memory, request_of};
+use sl_terminal_words::{Answer, Asked, Request, out_of_memory, request_of};
 use std::alloc::Global;
 use std::fmt::Display;
 
@@ -140,7 +140,7 @@ fn is_json(request: &Request<'_>) -> bool {
     matches!(
         request,
         Request::Report {
-            form: ReportForm::Json,
+            form: Shape::Json,
             ..
         }
     )

@@ -14,7 +14,7 @@ ghost use Rattle.sl_report_commands.specs.Written.{shown_subject};
 ghost use Rattle.sl_report_parties.specs.declared.earlier.EarlierParty.{EarlierParty as Party};
 ghost use Rattle.sl_report_tables.specs.Reports.{beside};
 ghost use Rattle.sl_terminal_commands.specs.Beside.{AreNames};
-ghost use Rattle.sl_terminal_commands.specs.Requests.{IsReportOf, IsReported, shape_of, style_of};
+ghost use Rattle.sl_terminal_commands.specs.Requests.{IsReportOf, IsReported, style_of};
 ghost use Rattle.sl_terminal_commands.specs.Said.{AreWarnings, IsSaid, report_said};
 ghost use Rattle.sl_terminal_commands.specs.Tellings.{warns_of};
 ghost use Rattle.sl_terminal_commands.specs.inner.Digested.{word_bytes};
@@ -32,7 +32,7 @@ use sl_report_commands::{
     Texts, Written, earlier_in, names_in, show_judged,
 };
 use sl_terminal_outside::{Outside, open, open_book};
-use sl_terminal_words::{Report, ReportForm};
+use sl_terminal_words::Report;
 use std::alloc::Global;
 
 // How a report is written: with the names of a file and beside the earlier seat table of one, where they are given, in a form and in a language.
@@ -48,18 +48,6 @@ pub(crate) struct Writing<'a> {
 pub(crate) struct Paths<'a> {
     pub(crate) book: &'a str,
     pub(crate) returns: &'a str,
-}
-
-fn shape_of(form: ReportForm) -> Shape
-    ensures { result ≡ shape_of form }
-{
-    match form {
-        ReportForm::Text => Shape::Text,
-        ReportForm::Markdown => Shape::Markdown,
-        ReportForm::Html => Shape::Html,
-        ReportForm::Json => Shape::Json,
-        ReportForm::Comma => Shape::Comma,
-    }
 }
 
 // The bytes of the rulebook of a word: those of the library's after `@`, and else those that were read.
@@ -274,7 +262,7 @@ impl<O: Outside> Commands<'_, O> {
         &self,
         forms: &F,
         what: &Report<'a>,
-        form: ReportForm,
+        form: Shape,
         names: Option<&'a str>,
     ) -> Result<Answered, Failure<'a, O::Reason>>
         ensures output { IfOk result (λ a. IsReported (F.is_text forms.now) (O.bytes self.now.outside.now) what.now (option_map (λ path. path.now) names.entry)
@@ -286,7 +274,7 @@ impl<O: Outside> Commands<'_, O> {
             names,
             before: None,
             style: Style {
-                shape: shape_of(form),
+                shape: form,
                 language: self.language,
             },
         };

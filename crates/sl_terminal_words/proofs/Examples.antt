@@ -8,7 +8,7 @@ use Rattle.sl_explain_texts.specs.declared.language.Language.TheVariants.{German
 use Rattle.sl_terminal_words.specs.Answers.{asked_in, faults_in}
 use Rattle.sl_terminal_words.specs.Requests.{Wish, compiled, counted, explained, reported, seat_table, seats, short, stage}
 use Rattle.sl_terminal_words.specs.declared.options.Options.{Options}
-use Rattle.sl_terminal_words.specs.declared.reports.ReportForm.TheVariants as form
+use Rattle.sl_report_forms.specs.declared.shape.Shape.TheVariants as form
 
 abbrev spoken : Wish → Wish × Options
 spoken wish = (wish, record { is_quiet = false; language = None })

@@ -6,6 +6,8 @@ use Rattle.clap.specs.Walk.{Row, Text, all_of, first_of, one_of}
 use Rattle.sl_explain_texts.specs.Codes.{code_named}
 use Rattle.sl_explain_texts.specs.Languages.{language_of}
 use Rattle.sl_explain_texts.specs.declared.code.FaultCode.{FaultCode}
+use Rattle.sl_report_forms.specs.declared.shape.Shape.{Shape}
+use Rattle.sl_report_forms.specs.declared.shape.Shape.TheVariants as form
 use Rattle.sl_terminal_words.specs.Commands.{command_named}
 use Rattle.sl_terminal_words.specs.declared.command_line.Asked.{Asked}
 use Rattle.sl_terminal_words.specs.declared.command_line.Request.{Request}
@@ -17,8 +19,6 @@ use Rattle.sl_terminal_words.specs.declared.help.Name.TheVariants.{Count, Steps,
 use Rattle.sl_terminal_words.specs.declared.options.Options.{Options}
 use Rattle.sl_terminal_words.specs.declared.reports.Report.{Report as Reported}
 use Rattle.sl_terminal_words.specs.declared.reports.Report.TheVariants as report
-use Rattle.sl_terminal_words.specs.declared.reports.ReportForm.{ReportForm}
-use Rattle.sl_terminal_words.specs.declared.reports.ReportForm.TheVariants as form
 
 -- ---- what can be asked for, with its words
 
@@ -59,7 +59,7 @@ pub data Wish : Type 0 where
   -- to explain the code of a fault
   explained : FaultCode → Wish
   -- to report in a form, with a file of names if one is given
-  reported : Page → ReportForm → Option Text → Wish
+  reported : Page → Shape → Option Text → Wish
 
 -- ---- the same, of the program's own values
 
@@ -165,7 +165,7 @@ page_by Totals given = totals_page given
 page_by Compare given = comparison_page given
 page_by command given = None
 
-abbrev pub form_by : List Row → ReportForm
+abbrev pub form_by : List Row → Shape
 form_by given = if flag_in given (codes "markdown") then form.Markdown
     else (if flag_in given (codes "html") then form.Html
     else (if flag_in given (codes "json") then form.Json

@@ -11,13 +11,14 @@ ghost use Rattle.sl_terminal_words.specs.inner.Rules.{HasCommands, HasRules, IsO
 use crate::answers::{Answer, answer_to, refuse};
 use crate::help::{COMMANDS, Form, PROGRAM, command_of};
 use crate::options::{Options, language_in};
-use crate::reports::{Report, ReportForm};
+use crate::reports::Report;
 use crate::requests::asked_in;
 use crate::texts::command_line::{NO_COMMAND, SAME_FILE, UNKNOWN_CODE};
 use crate::words::{Given, Word, WordName};
 use clap::{Arg, ArgAction, ArgMatches, Command};
 use sl_base_quotients::NoMemory;
 use sl_explain_texts::{FaultCode, Language, Message, VERSION};
+use sl_report_forms::Shape;
 use std::alloc::{AllocError, Global};
 
 /// What is shown of an election that is counted.
@@ -67,7 +68,7 @@ pub enum Request<'a> {
     /// To report in a form, with the full names of a file if one is given.
     Report {
         what: Report<'a>,
-        form: ReportForm,
+        form: Shape,
         names: Option<&'a str>,
     },
 }

@@ -1,6 +1,6 @@
 //! The command line of the program: its words, what they ask for, and the help.
 //!
-//! Stands on `sl_explain_texts` and `sl_laws`; used by the room terminal. Proved: which request the words ask for (specs/Answers.antt); and why they are
+//! Stands on `sl_report_forms` and `sl_laws`; used by the room terminal. Proved: which request the words ask for (specs/Answers.antt); and why they are
 //! refused, or shown a text, where they begin with a command none of whose options is tied to another. Only tested: the texts.
 //!
 //! Where an error is `NoMemory` alone, memory ran out, and nothing else is wrong.
@@ -24,5 +24,5 @@ mod words;
 pub use answers::{Answer, out_of_memory};
 pub use command_line::{Asked, Request, Show, request_of};
 pub use options::Options;
-pub use reports::{Report, ReportForm};
+pub use reports::Report;
 pub use system::reason_in;

@@ -7,6 +7,7 @@ ghost use Rattle.sl_terminal_words.specs.Requests.{comparison_page, counted_page
 use crate::given::{flag_in, word_in, words_in};
 use crate::help::Name;
 use clap::ArgMatches;
+use sl_report_forms::Shape;
 use std::alloc::{AllocError, Global};
 
 /// What is reported.
@@ -51,30 +52,20 @@ pub enum Report<'a> {
     },
 }
 
-/// The form of a report.
-#[derive(Clone, Copy)]
-pub enum ReportForm {
-    Text,
-    Markdown,
-    Html,
-    Json,
-    Comma,
-}
-
 /// The form that is asked for.
-pub(crate) fn form_of(given: &ArgMatches<'_>) -> ReportForm
+pub(crate) fn form_of(given: &ArgMatches<'_>) -> Shape
     ensures { result ≡ form_by (rows_of (found_of given.now)) }
 {
     if flag_in(given, "markdown") {
-        ReportForm::Markdown
+        Shape::Markdown
     } else if flag_in(given, "html") {
-        ReportForm::Html
+        Shape::Html
     } else if flag_in(given, "json") {
-        ReportForm::Json
+        Shape::Json
     } else if flag_in(given, "csv") {
-        ReportForm::Comma
+        Shape::Comma
     } else {
-        ReportForm::Text
+        Shape::Text
     }
 }
 

@@ -25,7 +25,7 @@ use Rattle.sl_report_commands.specs.declared.written.Style.{Style}
 use Rattle.sl_report_forms.specs.declared.heading.Heading.{Heading}
 use Rattle.sl_report_tables.specs.Answers.{HasTables, IsRefusal, IsRefusedBy}
 use Rattle.sl_report_tables.specs.declared.answer.Answer.{Answer}
-use Rattle.sl_report_tables.specs.declared.answer.Shape.{Shape}
+use Rattle.sl_report_forms.specs.declared.shape.Shape.{Shape}
 use Rattle.sl_terminal_commands.specs.Comparisons.{column_word, table_said}
 use Rattle.sl_terminal_commands.specs.Beside.{AreNames}
 use Rattle.sl_terminal_commands.specs.Said.{IsSaid, Said, fault}

@@ -13,7 +13,7 @@ use Rattle.sl_report_parties.specs.declared.earlier.EarlierParty.{EarlierParty}
 use Rattle.sl_report_tables.specs.Earlier.{is_refused_in}
 use Rattle.sl_report_tables.specs.Reports.{beside}
 use Rattle.sl_report_tables.specs.declared.answer.Answer.{Answer}
-use Rattle.sl_report_tables.specs.declared.answer.Shape.{Shape}
+use Rattle.sl_report_forms.specs.declared.shape.Shape.{Shape}
 use Rattle.sl_report_tables.specs.declared.counts.Show.{Show}
 use Rattle.sl_terminal_commands.specs.Beside.{AreBeside}
 use Rattle.sl_terminal_commands.specs.Requests.{AreEarlier, AreTold}

@@ -9,7 +9,7 @@ use Rattle.sl_report_commands.specs.declared.written.Style.{Style}
 use Rattle.sl_report_commands.specs.inner.Digested.{totals_digested}
 use Rattle.sl_report_forms.specs.declared.heading.Heading.{Heading}
 use Rattle.sl_report_tables.specs.declared.answer.Answer.{Answer}
-use Rattle.sl_report_tables.specs.declared.answer.Shape.{Shape}
+use Rattle.sl_report_forms.specs.declared.shape.Shape.{Shape}
 use Rattle.sl_terminal_commands.specs.Said.{IsSaid, said_of}
 use Rattle.sl_terminal_commands.specs.declared.answered.Answered.{Answered}
 use Rattle.sl_terminal_commands.specs.declared.sums.NamedBook.{NamedBook}

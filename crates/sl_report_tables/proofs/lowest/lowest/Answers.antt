@@ -1,5 +1,5 @@
 use Rattle.std.proofs.Common.{◌≡◌, ℕ, ◌<◌, arith}
-use Rattle.sl_report_tables.proofs.Divisors.{divisor_some, same_value, without_common}
+use Rattle.sl_report_tables.proofs.Divisors.{divisor_some, lowest_is}
 use Rattle.sl_report_tables.proofs.lowest.lowest.Goals as goal
 
 some : (den : ℕ) → (den ≡ 0 → ⊥) → 0 < den
@@ -12,8 +12,4 @@ pub nonzero_div-result-2 : goal.nonzero_div-result-2
 nonzero_div-result-2 c = divisor_some c.args.fraction.num c.args.fraction.den c.common_divisor-divisor.result (some c.args.fraction.den c.if-den-eq0.false) c.common_divisor-divisor.ensures
 
 pub returns : goal.returns
-returns c = record {
-  none = λ e. absurd (c.if-den-eq0.false e);
-  same = λ pos. same_value c.args.fraction.num c.args.fraction.den c.common_divisor-divisor.result pos c.common_divisor-divisor.ensures;
-  apart = λ pos. without_common c.args.fraction.num c.args.fraction.den c.common_divisor-divisor.result pos c.common_divisor-divisor.ensures;
-}
+returns c = lowest_is c.args.fraction c.common_divisor-divisor.result (some c.args.fraction.den c.if-den-eq0.false) c.common_divisor-divisor.ensures

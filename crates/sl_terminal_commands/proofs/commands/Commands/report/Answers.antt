@@ -5,53 +5,49 @@ use Rattle.sl_explain_texts.specs.declared.language.Language.{Language}
 use Rattle.sl_report_commands.specs.declared.written.Style.{Style}
 use Rattle.sl_report_forms.specs.declared.heading.Heading.{Heading}
 use Rattle.sl_report_tables.specs.declared.answer.Answer.{Answer}
-use Rattle.sl_report_tables.specs.declared.answer.Shape.{Shape}
+use Rattle.sl_report_forms.specs.declared.shape.Shape.{Shape}
 use Rattle.sl_terminal_commands.proofs.Columns.{comparison_warns}
 use Rattle.sl_terminal_commands.proofs.commands.Commands.report.Goals as goal
 use Rattle.sl_terminal_commands.specs.Comparisons.{IsComparisonOf}
-use Rattle.sl_terminal_commands.specs.Requests.{IsReported, shape_of, style_of}
+use Rattle.sl_terminal_commands.specs.Requests.{IsReported, style_of}
 use Rattle.sl_terminal_commands.specs.Said.{IsSaid}
 use Rattle.sl_terminal_commands.specs.declared.answered.Answered.{Answered}
 use Rattle.sl_terminal_words.specs.declared.reports.Report.{Report}
-use Rattle.sl_terminal_words.specs.declared.reports.ReportForm.{ReportForm}
-
-abbrev own_style : Shape → Language → Style
-own_style shape language = record { shape = shape; language = language }
 
 abbrev names_of : Option (Bor (List ℕ)) → Option (List ℕ)
 names_of names = option_map (λ (path : Bor (List ℕ)). path.now) names
 
-module _ {E : Type 0} (IsText : Shape → Heading → Answer → List ℕ → Type 0) (bytes : List ℕ → Option (List ℕ)) (names : Option (List ℕ)) (form : ReportForm) (language : Language) (r : Result Answered E) where
-  abbrev Output : Report → Shape → Type 0
-  Output what shape = IfOk r (λ a. IsReported IsText bytes what names (own_style shape language) a.status a.text.items (λ s. IsSaid language s a.said.items))
+module _ {E : Type 0} (IsText : Shape → Heading → Answer → List ℕ → Type 0) (bytes : List ℕ → Option (List ℕ)) (names : Option (List ℕ)) (shape : Shape) (language : Language) (r : Result Answered E) where
+  abbrev Output : Report → Type 0
+  Output what = IfOk r (λ a. IsReported IsText bytes what names (style_of shape language) a.status a.text.items (λ s. IsSaid language s a.said.items))
 
-  -- the output of what is asked for, in the form that is
-  asked : (what q : Report) (shape : Shape) → what ≡ q → shape ≡ shape_of form → Output q shape → Output what (shape_of form)
-  asked what q shape is of out = subst (λ p. Output p (shape_of form)) (sym is) (subst (λ s. Output q s) of out)
+  -- the output of what is asked for
+  asked : (what q : Report) → what ≡ q → Output q → Output what
+  asked what q is out = subst Output (sym is) out
 
 pub returns-in-Seats-clause-output : goal.returns-in-Seats-clause-output
 returns-in-Seats-clause-output g c =
-    asked (g.F.Forms.is_text c.args.forms.now) (g.O.Outside.bytes c.args.self.now.outside.now) (names_of c.args.names) c.args.form c.args.self.now.language c.report_count.result _ _ _ c.in-Seats.is c.shape_of.ensures
+    asked (g.F.Forms.is_text c.args.forms.now) (g.O.Outside.bytes c.args.self.now.outside.now) (names_of c.args.names) c.args.form c.args.self.now.language c.report_count.result _ _ c.in-Seats.is
     c.report_count.ensures.answer
 
 pub returns-in-Steps-clause-output : goal.returns-in-Steps-clause-output
 returns-in-Steps-clause-output g c =
-    asked (g.F.Forms.is_text c.args.forms.now) (g.O.Outside.bytes c.args.self.now.outside.now) (names_of c.args.names) c.args.form c.args.self.now.language c.report_count-in-Steps.result _ _ _ c.in-Steps.is c.shape_of.ensures
+    asked (g.F.Forms.is_text c.args.forms.now) (g.O.Outside.bytes c.args.self.now.outside.now) (names_of c.args.names) c.args.form c.args.self.now.language c.report_count-in-Steps.result _ _ c.in-Steps.is
     c.report_count-in-Steps.ensures.answer
 
 pub returns-in-Count-clause-output : goal.returns-in-Count-clause-output
 returns-in-Count-clause-output g c =
-    asked (g.F.Forms.is_text c.args.forms.now) (g.O.Outside.bytes c.args.self.now.outside.now) (names_of c.args.names) c.args.form c.args.self.now.language c.report_count-in-Count.result _ _ _ c.in-Count.is c.shape_of.ensures
+    asked (g.F.Forms.is_text c.args.forms.now) (g.O.Outside.bytes c.args.self.now.outside.now) (names_of c.args.names) c.args.form c.args.self.now.language c.report_count-in-Count.result _ _ c.in-Count.is
     c.report_count-in-Count.ensures.answer
 
 pub returns-in-Short-clause-output : goal.returns-in-Short-clause-output
 returns-in-Short-clause-output g c =
-    asked (g.F.Forms.is_text c.args.forms.now) (g.O.Outside.bytes c.args.self.now.outside.now) (names_of c.args.names) c.args.form c.args.self.now.language c.report_count-in-Short.result _ _ _ c.in-Short.is c.shape_of.ensures
+    asked (g.F.Forms.is_text c.args.forms.now) (g.O.Outside.bytes c.args.self.now.outside.now) (names_of c.args.names) c.args.form c.args.self.now.language c.report_count-in-Short.result _ _ c.in-Short.is
     c.report_count-in-Short.ensures.answer
 
 pub returns-in-Stages-clause-output : goal.returns-in-Stages-clause-output
 returns-in-Stages-clause-output g c =
-    asked (g.F.Forms.is_text c.args.forms.now) (g.O.Outside.bytes c.args.self.now.outside.now) (names_of c.args.names) c.args.form c.args.self.now.language c.report_count-in-Stages.result _ _ _ c.in-Stages.is c.shape_of.ensures
+    asked (g.F.Forms.is_text c.args.forms.now) (g.O.Outside.bytes c.args.self.now.outside.now) (names_of c.args.names) c.args.form c.args.self.now.language c.report_count-in-Stages.result _ _ c.in-Stages.is
     c.report_count-in-Stages.ensures.answer
 
 pub returns-in-Compare-clause-done : goal.returns-in-Compare-clause-done
@@ -78,11 +74,8 @@ returns-in-Compare-clause-output g c =
     λ a h.
     subst (λ q. IsReported text bytes q names (style_of c.args.form language) a.status a.text.items (λ s. IsSaid language s a.said.items)) (sym c.in-Compare.is)
     (
-    subst (λ s. IsComparisonOf text bytes returns given words names (own_style s language) a.status a.text.items (λ s. IsSaid language s a.said.items)) c.shape_of.ensures
-    (
-    subst (λ ws. IsComparisonOf text bytes returns (map (λ (word : Bor (List ℕ)). word.now) ws) words names (own_style c.shape_of.result language) a.status a.text.items (λ s. IsSaid language s a.said.items)) c.as_slice.ensures.value
-    (subst (λ ws. IsComparisonOf text bytes returns (map (λ (word : Bor (List ℕ)). word.now) c.as_slice.result.now) (map (λ (word : Bor (List ℕ)). word.now) ws) names (own_style c.shape_of.result language) a.status a.text.items (λ s. IsSaid language s a.said.items)) c.as_slice-methods.ensures.value h)
-    )
+    subst (λ ws. IsComparisonOf text bytes returns (map (λ (word : Bor (List ℕ)). word.now) ws) words names (style_of c.args.form language) a.status a.text.items (λ s. IsSaid language s a.said.items)) c.as_slice.ensures.value
+    (subst (λ ws. IsComparisonOf text bytes returns (map (λ (word : Bor (List ℕ)). word.now) c.as_slice.result.now) (map (λ (word : Bor (List ℕ)). word.now) ws) names (style_of c.args.form language) a.status a.text.items (λ s. IsSaid language s a.said.items)) c.as_slice-methods.ensures.value h)
     )
     )
     c.report_comparison.ensures
