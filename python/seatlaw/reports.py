@@ -39,16 +39,16 @@ class PartyReport(NamedTuple):
 
 class PressRow(NamedTuple):
     """A row of the page for the press; that of all has no party. `won` are constituencies, `direct` those whose winner sits, `before` the seats of the
-    earlier table."""
+    earlier table. A party that the returns do not have has no constituencies and votes, and that is None."""
 
     party: Optional[str]
     party_name: str
     seats: int
     before: Optional[int]
     change: Optional[int]
-    won: int
-    direct: int
-    valid: int
+    won: Optional[int]
+    direct: Optional[int]
+    valid: Optional[int]
     percent: Optional[Decimal]
 
 

@@ -108,7 +108,7 @@ fn help_library(
 
 // That nothing has the name.
 fn say_unknown(speaker: Speaker, sentence: &Sentence, name: &str) -> Result<Explanation, NoMemory>
-    ensures { IfOk result (λ x. x.code ≡ Some sentence.now.code) }
+    ensures { IfOk result (λ x. x.code ≡ Some sentence.now.0) }
 {
     let shown = speaker.shown(name.as_bytes())?;
     speaker.says(sentence, &[shown.as_slice()])

@@ -48,7 +48,7 @@ fn explain_magic(speaker: Speaker, bytes: &[u8], code: FaultCode) -> Result<Expl
 
 // A fault at an offset, or at an instruction.
 fn explain_at(speaker: Speaker, sentence: &Sentence, at: usize) -> Result<Explanation, NoMemory>
-    ensures { IfOk result (λ x. x.code ≡ Some sentence.now.code) }
+    ensures { IfOk result (λ x. x.code ≡ Some sentence.now.0) }
 {
     let number = speaker.number(at)?;
     speaker.explains(sentence, &[number.as_slice()], &[&AGAIN, &CHANGED])

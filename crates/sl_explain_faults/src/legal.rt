@@ -169,7 +169,7 @@ fn say_kind(
     returns: &Returns,
     scope: Scope,
 ) -> Result<Explanation, NoMemory>
-    ensures { IfOk result (λ x. x.code ≡ Some sentence.now.code) }
+    ensures { IfOk result (λ x. x.code ≡ Some sentence.now.0) }
 {
     let scope = scope_words(speaker, returns, scope)?;
     let stage = speaker.shown(stage)?;

@@ -9,8 +9,8 @@ use Rattle.sl_explain_texts.specs.declared.language.TheConstants.{LANGUAGES}
 
 -- the text of a message in a language
 abbrev pub in_language : Language → Message → List ℕ
-in_language English m = m.english.now
-in_language German m = m.german.now
+in_language English m = m.0.now
+in_language German m = m.1.now
 
 -- the word that asks for a language
 abbrev pub language_word : Language → List ℕ

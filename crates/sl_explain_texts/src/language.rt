@@ -20,20 +20,13 @@ pub const LANGUAGES: [Language; 2] = [Language::German, Language::English];
 /// Their words, as `--lang` takes them.
 pub const LANGUAGE_WORDS: [&str; 2] = ["de", "en"];
 
-/// A message in both languages. Each `$` in it stands for the next value.
+/// A message in English and in German. Each `$` in it stands for the next value.
 #[derive(Clone, Copy)]
-pub struct Message {
-    pub english: &'static str,
-    pub german: &'static str,
-}
+pub struct Message(pub &'static str, pub &'static str);
 
-/// What is said of a fault, in both languages, with the code of the fault. Each `$` in it stands for the next value.
+/// What is said of a fault: the code of the fault, and a message of it in English and in German. Each `$` in it stands for the next value.
 #[derive(Clone, Copy)]
-pub struct Sentence {
-    pub code: FaultCode,
-    pub english: &'static str,
-    pub german: &'static str,
-}
+pub struct Sentence(pub FaultCode, pub &'static str, pub &'static str);
 
 impl Language {
     /// The word that asks for it.
@@ -92,8 +85,8 @@ impl Message {
         ensures { result.now ≡ in_language language self.now }
     {
         match language {
-            Language::English => self.english,
-            Language::German => self.german,
+            Language::English => self.0,
+            Language::German => self.1,
         }
     }
 
@@ -118,44 +111,25 @@ impl Message {
 
     /// The message as what is said of a fault, where the same is said of several.
     pub fn of_fault(&self, code: FaultCode) -> Sentence
-        ensures { result.code ≡ code }
+        ensures { result.0 ≡ code }
     {
-        Sentence {
-            code,
-            english: self.english,
-            german: self.german,
-        }
+        Sentence(code, self.0, self.1)
     }
 }
 
 impl Sentence {
     // The sentence without its code.
     pub(crate) fn message(&self) -> Message {
-        Message {
-            english: self.english,
-            german: self.german,
-        }
+        Message(self.1, self.2)
     }
 }
 
 // ---- texts; each `$` stands for the next value
 
-pub(crate) const HELP: Message = Message {
-    english: "  = help: ",
-    german: "  = Hilfe: ",
-};
+pub(crate) const HELP: Message = Message("  = help: ", "  = Hilfe: ");
 
-pub(crate) const OR: Message = Message {
-    english: " or ",
-    german: " oder ",
-};
+pub(crate) const OR: Message = Message(" or ", " oder ");
 
-pub(crate) const AND: Message = Message {
-    english: " and ",
-    german: " und ",
-};
+pub(crate) const AND: Message = Message(" and ", " und ");
 
-pub(crate) const MEANT: Message = Message {
-    english: "did you mean `$`?",
-    german: "ist `$` gemeint?",
-};
+pub(crate) const MEANT: Message = Message("did you mean `$`?", "ist `$` gemeint?");

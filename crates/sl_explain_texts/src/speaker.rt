@@ -33,10 +33,10 @@ pub struct Speaker {
 impl Speaker {
     /// An explanation of one sentence, without a place.
     pub fn says(self, sentence: &Sentence, values: &[&[u8]]) -> Result<Explanation, NoMemory>
-        ensures { IfOk result (λ x. x.code ≡ Some sentence.now.code) }
+        ensures { IfOk result (λ x. x.code ≡ Some sentence.now.0) }
     {
         let text = self.text(&sentence.message(), values)?;
-        Ok(Explanation::of(self.alloc, Some(sentence.code), text))
+        Ok(Explanation::of(self.alloc, Some(sentence.0), text))
     }
 
     /// An explanation of one sentence, on some bytes.
@@ -46,7 +46,7 @@ impl Speaker {
         values: &[&[u8]],
         span: Span,
     ) -> Result<Explanation, NoMemory>
-        ensures { IfOk result (λ x. x.code ≡ Some sentence.now.code) }
+        ensures { IfOk result (λ x. x.code ≡ Some sentence.now.0) }
     {
         let explanation = self.says(sentence, values)?;
         Ok(explanation.at(span.start, span.end))
@@ -59,7 +59,7 @@ impl Speaker {
         values: &[&[u8]],
         remedies: &[&Message],
     ) -> Result<Explanation, NoMemory>
-        ensures { IfOk result (λ x. x.code ≡ Some sentence.now.code) }
+        ensures { IfOk result (λ x. x.code ≡ Some sentence.now.0) }
     {
         let mut explanation = self.says(sentence, values)?;
         for remedy in remedies {
@@ -76,7 +76,7 @@ impl Speaker {
         span: Span,
         remedies: &[&Message],
     ) -> Result<Explanation, NoMemory>
-        ensures { IfOk result (λ x. x.code ≡ Some sentence.now.code) }
+        ensures { IfOk result (λ x. x.code ≡ Some sentence.now.0) }
     {
         let explanation = self.explains(sentence, values, remedies)?;
         Ok(explanation.at(span.start, span.end))

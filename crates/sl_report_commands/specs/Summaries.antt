@@ -16,7 +16,7 @@ use Rattle.sl_report_tables.specs.declared.answer.Answer.{Answer}
 
 -- the totals of good returns, with a good rulebook if one is given; or a refusal of the names
 abbrev pub IsNamedTotals : (are_refused : Bool) → Option Book → Election → Answer → Type 0
-IsNamedTotals false book e a = HasTables (AreTotals book e) a
+IsNamedTotals false book e a = HasTables e (AreTotals book e) a
 IsNamedTotals true book e a = IsRefusal a
 
 -- or of the returns

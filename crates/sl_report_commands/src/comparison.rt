@@ -53,7 +53,7 @@ pub fn compare_judged(
     full: &FullNames,
     language: Language,
 ) -> Result<Answer, NoMemory>
-    ensures { IfOk result (HasTables (ShowsCompared returns.now books.items)) }
+    ensures { IfOk result (HasTables returns.now (ShowsCompared returns.now books.items)) }
 {
     let mut all: Vec<Judged> = Vec::new(alloc);
     for compared in books {

@@ -10,10 +10,7 @@ use sl_explain_texts::{Language, Message, push_shown};
 use std::alloc::Global;
 
 // Values: the word that names the rulebook, and what is wrong with it.
-const ALSO: Message = Message {
-    english: "also refused: $: $",
-    german: "auch abgelehnt: $: $",
-};
+const ALSO: Message = Message("also refused: $: $", "auch abgelehnt: $: $");
 
 // A line on a rulebook that is refused: the word that names it, and the sentence of its own explanation.
 fn line_on(

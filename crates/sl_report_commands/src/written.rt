@@ -17,7 +17,7 @@ use sl_count_calls::Judged;
 use sl_count_inputs::{DeskError, Input, RefusedBook, RefusedElection, Verdict};
 use sl_explain_calls::{Explained, explain_book, explain_election, explain_judged};
 use sl_explain_texts::{Explanation, Language};
-use sl_report_forms::{DigestedInput, Heading, Shape, Told, json_text};
+use sl_report_forms::{DigestedInput, Heading, Names, Shape, Told, json_text};
 use sl_report_tables::{Answer, Show};
 use std::alloc::Global;
 
@@ -329,7 +329,9 @@ pub fn failed_text(
         told,
     };
     let line = format!(in alloc; "{error}")?;
-    Ok(json_text(alloc, &heading, FAILED, Some(line.as_str()), &[])?.into_bytes())
+    let names = Names::none(alloc);
+    let text = json_text(alloc, &heading, FAILED, Some(line.as_str()), &names, &[])?;
+    Ok(text.into_bytes())
 }
 
 // The word of the command that shows a count.

@@ -11,6 +11,7 @@ use Rattle.csv.specs.declared.parser.State.TheVariants as st
 use Rattle.csv.proofs.RoundTrip.{read-write}
 use Rattle.sl_report_forms.specs.CommaForm.{IsCommaText, comma_records, has_key, heads_record, records_after, records_text, row_record, rows_records, sheet_records}
 use Rattle.sl_report_forms.specs.declared.cell.Cell.{Cell}
+use Rattle.sl_report_forms.specs.declared.names.Names.{Names}
 use Rattle.sl_report_forms.specs.declared.sheet.Sheet.{Sheet}
 
 -- as many records as there are, or more
@@ -30,22 +31,22 @@ read-all : (rows : List (List (List ℕ))) → records default_config (records_t
 read-all rows = let enough = text-length rows in read-some (length (records_text rows) + 1) rows (omega arith)
 
 -- no record of a sheet is without a field
-rows-back : (key : List ℕ) (rows : List (Vec Cell)) → map read_back (map (λ r. row_record key r.items) rows) ≡ map (λ r. row_record key r.items) rows
-rows-back key [] = refl
-rows-back key (row ∷ rows) = rw (rows-back key rows) refl
+rows-back : (n : Names) (key : List ℕ) (rows : List (Vec Cell)) → map read_back (map (λ r. row_record n key r.items) rows) ≡ map (λ r. row_record n key r.items) rows
+rows-back n key [] = refl
+rows-back n key (row ∷ rows) = rw (rows-back n key rows) refl
 
-sheet-back : (b : Bool) (s : Sheet)
-    → map read_back ((if b then [] else heads_record s ∷ []) ++ rows_records s) ≡ (if b then [] else heads_record s ∷ []) ++ rows_records s
-sheet-back true s = rows-back s.key.now s.rows.items
-sheet-back false s = rw (rows-back s.key.now s.rows.items) refl
+sheet-back : (n : Names) (b : Bool) (s : Sheet)
+    → map read_back ((if b then [] else heads_record s ∷ []) ++ rows_records n s) ≡ (if b then [] else heads_record s ∷ []) ++ rows_records n s
+sheet-back n true s = rows-back n s.key.now s.rows.items
+sheet-back n false s = rw (rows-back n s.key.now s.rows.items) refl
 
-records-back : (before sheets : List Sheet) → map read_back (records_after before sheets) ≡ records_after before sheets
-records-back before [] = refl
-records-back before (s ∷ sheets) =
-    rw (map-append read_back (sheet_records before s) (records_after (before ++ s ∷ []) sheets), sheet-back (list_any (has_key s.key.now) before) s, records-back (before ++ s ∷ []) sheets) refl
+records-back : (n : Names) (before sheets : List Sheet) → map read_back (records_after n before sheets) ≡ records_after n before sheets
+records-back n before [] = refl
+records-back n before (s ∷ sheets) =
+    rw (map-append read_back (sheet_records n before s) (records_after n (before ++ s ∷ []) sheets), sheet-back n (list_any (has_key s.key.now) before) s, records-back n (before ++ s ∷ []) sheets) refl
 
-pub is-comma_text : (sheets : List Sheet) (text : List ℕ) → text ≡ records_text (comma_records sheets) → IsCommaText sheets text
-is-comma_text sheets text e = record {
+pub is-comma_text : (n : Names) (sheets : List Sheet) (text : List ℕ) → text ≡ records_text (comma_records n sheets) → IsCommaText n sheets text
+is-comma_text n sheets text e = record {
   written = e;
-  read = ap (records default_config) e ∙ read-all (comma_records sheets) ∙ records-back [] sheets;
+  read = ap (records default_config) e ∙ read-all (comma_records n sheets) ∙ records-back n [] sheets;
 }

@@ -7,6 +7,7 @@ use Rattle.csv.specs.declared.writer.QuoteStyle.TheVariants as style
 use Rattle.csv.specs.declared.writer.Writer.{Writer}
 use Rattle.csv.specs.declared.writer.WriterBuilder.{WriterBuilder}
 use Rattle.sl_report_forms.specs.CommaForm.{AddsRecords, records_after, sheet_records, written}
+use Rattle.sl_report_forms.specs.declared.names.Names.{Names}
 use Rattle.sl_report_forms.specs.declared.sheet.Sheet.{Sheet}
 
 -- records of any lengths are written as others are
@@ -47,8 +48,8 @@ adds-one w v fields bytes ended clean setup at =
     )
 
 -- one more sheet
-pub records-more : (before xs : List Sheet) (x : Sheet) → records_after before (xs ++ x ∷ []) ≡ records_after before xs ++ sheet_records (before ++ xs) x
-records-more before [] x = rw (append-nil before) (append-nil (sheet_records before x))
-records-more before (y ∷ xs) x =
-    rw (records-more (before ++ y ∷ []) xs x, append_assoc before (y ∷ []) xs)
-    (sym (append_assoc (sheet_records before y) (records_after (before ++ y ∷ []) xs) (sheet_records (before ++ y ∷ xs) x)))
+pub records-more : (n : Names) (before xs : List Sheet) (x : Sheet) → records_after n before (xs ++ x ∷ []) ≡ records_after n before xs ++ sheet_records n (before ++ xs) x
+records-more n before [] x = rw (append-nil before) (append-nil (sheet_records n before x))
+records-more n before (y ∷ xs) x =
+    rw (records-more n (before ++ y ∷ []) xs x, append_assoc before (y ∷ []) xs)
+    (sym (append_assoc (sheet_records n before y) (records_after n (before ++ y ∷ []) xs) (sheet_records n (before ++ y ∷ xs) x)))

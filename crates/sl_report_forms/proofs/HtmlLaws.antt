@@ -1,5 +1,5 @@
--- Escaped HTML: what is written of a character, that it has no markup, and that it reads back; and rows and sections, one part more.
-use Rattle.std.proofs.Common.{◌≡◌, ◌∙◌, ◌⊎◌, ◌||◌, inl, inr, ◌<◌, ◌≤◌, ℕ, zero, suc, ◌+◌, Bool, true, false, List, [], ◌∷◌, ◌++◌, Option, Some, None, String, add-one, ap, append_assoc, arith, codes, filter, get_or, length, map, refl, string_bytes, subst, sym, take, if◌then◌else◌}
+-- Escaped HTML: what is written of a character, that it has no markup, and that it reads back; and rows, one cell more.
+use Rattle.std.proofs.Common.{◌≡◌, ◌∙◌, ◌⊎◌, ◌||◌, inl, inr, ◌<◌, ◌≤◌, ℕ, zero, suc, ◌+◌, Bool, true, false, List, [], ◌∷◌, ◌++◌, Option, Some, None, String, add-one, ap, append_assoc, arith, codes, get_or, length, map, refl, string_bytes, subst, sym, take, if◌then◌else◌}
 use Rattle.std.specs.Prelude.{◌==◌, option_map, slice_get}
 use Rattle.std.specs.Borrow.{Bor}
 use Rattle.std.specs.List.{flat_map, list_any, zip}
@@ -8,14 +8,12 @@ use Rattle.std.proofs.lemmas.Bool.{cases_eq, ne_eqb}
 use Rattle.std.proofs.lemmas.Bool.Decides.{nat_tests}
 use Rattle.std.proofs.lemmas.List.{append-nil}
 use Rattle.std.proofs.lemmas.List.Concat.{flat_map-append}
-use Rattle.std.proofs.lemmas.Option.{slice_get-get_or}
+use Rattle.std.proofs.lemmas.Option.{slice_get-get_or, slice_get-map}
 use Rattle.sl_report_forms.specs.Drafts.{Grows}
-use Rattle.sl_report_forms.specs.HtmlForm.{html_byte, html_cell, html_cells, html_escaped, html_section, html_sections, is_markup, read_entities, tag_at}
-use Rattle.sl_report_forms.specs.Shown.{has_view, view_of}
+use Rattle.sl_report_forms.specs.HtmlForm.{html_byte, html_cell, html_cells, html_escaped, is_markup, read_entities, tag_at}
 use Rattle.sl_report_forms.specs.declared.html_form.Tag.{Tag}
-use Rattle.sl_report_forms.specs.declared.sheet.Sheet.{Sheet}
 use Rattle.sl_report_forms.specs.declared.shown.ShownColumn.{ShownColumn}
-use Rattle.sl_report_forms.proofs.ShownSteps.{grow_as, grow_more, item_at, sheets_next}
+use Rattle.sl_report_forms.proofs.ShownSteps.{grow_as, grow_more, item_at}
 
 pub html_plain : (b : ℕ) → 128 ≤ b → html_byte b ≡ b ∷ []
 html_plain b high = grind (arith, nat_tests)
@@ -96,11 +94,6 @@ cells_more t u (a ∷ columns) (b ∷ texts) (suc i) column text p q =
     ∙ sym (append_assoc (html_cell t (a, b)) (flat_map (html_cell u) cells) (html_cell u (column, text)))
     ∙ ap (λ k. (html_cell t (a, b) ++ flat_map (html_cell u) cells) ++ html_cell (if k then t else u) (column, text)) (sym (ne_eqb (suc i) 0 (λ e. omega (arith, e))))
 
-slice_get-map : {A B : Type 0} (f : A → B) (xs : List A) (i : ℕ) → slice_get (map f xs) i ≡ option_map f (slice_get xs i)
-slice_get-map f [] i = refl
-slice_get-map f (x ∷ xs) zero = refl
-slice_get-map f (x ∷ xs) (suc i) = slice_get-map f xs i
-
 -- the bytes of the text at a place, if there is one
 pub text_at : {Z : Type 0} (row : List (String Z)) (i : ℕ) (r o : Option (Bor (String Z))) → IsItemAt row i r → r ≡ o →
     slice_get (map string_bytes row) i ≡ option_map string_bytes (option_map (λ x. x.now) o)
@@ -124,18 +117,3 @@ module _ {Z : Type 0} (t u : Tag) (columns : List ShownColumn) (row : List (Stri
       ap (λ cells. codes "<tr>" ++ html_cells t u cells) (
       sym (ap (λ n. zip (take n columns) (map string_bytes row)) (add-one i)
       ∙ zip_same columns (map string_bytes row) i (text_at row i r None at is))))
-
--- ---- sections
-pub section_more : (sheets : List Sheet) (i : ℕ) (s : Sheet) (a b c : Option (List ℕ)) → i < length sheets → s ≡ get_or sheets i s → has_view s ≡ true →
-    Grows a b (html_sections (take i sheets)) → Grows b c (html_section (string_bytes s.title) (view_of s)) → Grows a c (html_sections (take (i + 1) sheets))
-section_more sheets i s a b c within is seen so_far more =
-    let f : Sheet → List ℕ = λ s. html_section (string_bytes s.title) (view_of s) in
-    grow_as a c _ _ (grow_more a b c _ _ so_far more) (sym (
-    ap (flat_map f) (sheets_next sheets i s true within is seen) ∙ flat_map-append f (filter has_view (take i sheets)) (s ∷ [])
-    ∙ ap (λ zs. html_sections (take i sheets) ++ zs) (append-nil (f s))))
-
-pub section_same : (sheets : List Sheet) (i : ℕ) (s : Sheet) (a b : Option (List ℕ)) → i < length sheets → s ≡ get_or sheets i s → has_view s ≡ false →
-    Grows a b (html_sections (take i sheets)) → Grows a b (html_sections (take (i + 1) sheets))
-section_same sheets i s a b within is unseen so_far =
-    grow_as a b _ _ so_far (ap (flat_map (λ s. html_section (string_bytes s.title) (view_of s))) (
-    sym (sheets_next sheets i s false within is unseen ∙ append-nil (filter has_view (take i sheets)))))

@@ -9,11 +9,15 @@ use Rattle.serde_json.specs.View.{view, items_of, items_view}
 use Rattle.serde_json.specs.Read.{max_depth}
 use Rattle.serde_json.specs.declared.value.Value.{Value}
 use Rattle.sl_base_quotients.specs.declared.no_memory.NoMemory.{NoMemory}
+use Rattle.sl_law_meaning.specs.declared.fault.Scope.TheVariants as scope
 use Rattle.sl_report_forms.specs.Drafts.{Gains}
+use Rattle.sl_report_forms.specs.NameTexts.{text_in}
 use Rattle.sl_report_forms.specs.declared.cell.Cell.TheVariants as cell
 use Rattle.sl_report_forms.specs.declared.cell.Cell.{Cell}
 use Rattle.sl_report_forms.specs.declared.heading.Heading.{Heading}
 use Rattle.sl_report_forms.specs.declared.heading.Told.{Told}
+use Rattle.sl_report_forms.specs.declared.names.Length.TheVariants.{Short}
+use Rattle.sl_report_forms.specs.declared.names.Names.{Names}
 use Rattle.sl_report_forms.specs.declared.sheet.Head.{Head}
 use Rattle.sl_report_forms.specs.declared.sheet.Sheet.{Sheet}
 use Rattle.sl_report_forms.specs.JsonForm.{MaybeExplains, NestsWithin, object_of, with_members, cell_value, row_value, sheet_rows, table_value, tables_value, text_or_null, heading_members, hex, input_value, text_member, report_value}
@@ -45,27 +49,35 @@ items_of_parts : {A : Type 0} (f : A → List Data) (n : ℕ) → ((x : A) → i
 items_of_parts f n h [] = omega arith
 items_of_parts f n h (x ∷ xs) = items_of_both n (f x) (flat_map f xs) (h x) (items_of_parts f n h xs)
 
-of_cell : (c : Cell) → depth (cell_value c) ≤ 1
-of_cell cell.Empty = omega arith
-of_cell (cell.Text words) = omega arith
-of_cell (cell.Number n) = omega arith
-of_cell (cell.Decimal n) = omega arith
-of_cell (cell.Fraction num den) = omega arith
-of_cell (cell.Change n before) = omega arith
-of_cell (cell.Word key shown) = omega arith
-of_cell (cell.Flag is shown) = omega arith
-of_cell (cell.Names keys shown) = omega (arith, items_of_all (λ key. string (string_bytes key)) 0 (λ key. omega arith) keys.items)
+of_cell : (n : Names) (c : Cell) → depth (cell_value n c) ≤ 1
+of_cell n cell.Empty = omega arith
+of_cell n (cell.Text words) = omega arith
+of_cell n (cell.Prose words) = omega arith
+of_cell n (cell.Number m) = omega arith
+of_cell n (cell.Decimal m) = omega arith
+of_cell n (cell.Fraction num den) = omega arith
+of_cell n (cell.Change m before) = omega arith
+of_cell n (cell.Flag is) = omega arith
+of_cell n (cell.Word word) = omega arith
+of_cell n (cell.Condition cond) = omega arith
+of_cell n (cell.Stage stage) = omega arith
+of_cell n (cell.Entry entry) = omega arith
+of_cell n (cell.EntryName entry scope) = omega arith
+of_cell n (cell.Entries entries) = omega arith
+of_cell n (cell.Claimants entries seen) = omega (arith, items_of_all (λ entry. string (text_in n Short scope.All entry)) 0 (λ entry. omega arith) entries.items)
+of_cell n (cell.Scope scope) = omega arith
+of_cell n (cell.ScopeName scope) = omega arith
 
-of_rows : (s : Sheet) → items_depth (items_of (sheet_rows s)) ≤ 2
-of_rows s = items_of_all (λ row. row_value s.heads.items row.items) 2
-    (λ row. omega (arith, with_members_of {A = Head × Cell} (λ p. string_bytes p.0.key) (λ p. cell_value p.1) 1 (λ p. of_cell p.1) no_members (zip s.heads.items row.items) (omega arith))) s.rows.items
+of_rows : (n : Names) (s : Sheet) → items_depth (items_of (sheet_rows n s)) ≤ 2
+of_rows n s = items_of_all (λ row. row_value n s.heads.items row.items) 2
+    (λ row. omega (arith, with_members_of {A = Head × Cell} (λ p. string_bytes p.0.key) (λ p. cell_value n p.1) 1 (λ p. of_cell n p.1) no_members (zip s.heads.items row.items) (omega arith))) s.rows.items
 
-pub of_tables : (sheets : List Sheet) → depth (tables_value sheets) ≤ 4
-of_tables sheets =
+pub of_tables : (n : Names) (sheets : List Sheet) → depth (tables_value n sheets) ≤ 4
+of_tables n sheets =
     omega (
       arith,
-      with_members_of {A = Sheet} (λ s. s.key.now) (λ s. table_value sheets s.key.now) 3
-          (λ s. omega (arith, items_of_parts sheet_rows 2 of_rows (filter (λ t. bytes_eq t.key.now s.key.now) sheets))) no_members sheets (omega arith),
+      with_members_of {A = Sheet} (λ s. s.key.now) (λ s. table_value n sheets s.key.now) 3
+          (λ s. omega (arith, items_of_parts (sheet_rows n) 2 (of_rows n) (filter (λ t. bytes_eq t.key.now s.key.now) sheets))) no_members sheets (omega arith),
     )
 
 pub of_text : (text : Option (List ℕ)) → depth (text_or_null text) ≤ 0
@@ -80,9 +92,9 @@ of_why : (told : Option Told) (why : Data) → MaybeExplains told why → depth 
 of_why None why h = rw h (omega arith)
 of_why (Some told) why h = h.2
 
-pub of_report : (heading : Heading) (status : ℕ) (line : Option (List ℕ)) (why : Data) (sheets : List Sheet) → MaybeExplains heading.told why → depth (report_value (heading_members heading status line why) sheets) ≤ max_depth
-of_report heading status line why sheets h =
-    omega (arith, of_text line, of_why heading.told why h, items_of_all input_value 1 (λ i. of_word i.word i.input.now i.digest) heading.inputs.now, of_tables sheets)
+pub of_report : (heading : Heading) (status : ℕ) (line : Option (List ℕ)) (why : Data) (n : Names) (sheets : List Sheet) → MaybeExplains heading.told why → depth (report_value (heading_members heading status line why) n sheets) ≤ max_depth
+of_report heading status line why n sheets h =
+    omega (arith, of_text line, of_why heading.told why h, items_of_all input_value 1 (λ i. of_word i.word i.input.now i.digest) heading.inputs.now, of_tables n sheets)
 
 -- ---- a list that is being filled
 

@@ -1,19 +1,17 @@
--- Escaped Markdown: what is written of a character, and that what is escaped reads back.
-use Rattle.std.proofs.Common.{◌≡◌, ◌∙◌, ◌⊎◌, ◌<◌, ◌≤◌, ◌+◌, ℕ, true, false, List, [], ◌∷◌, ◌++◌, Option, Some, None, append_assoc, filter, get_or, length, map, string_bytes, subst, take, ap, arith, refl, sym, inl, inr, if◌then◌else◌}
+-- Escaped Markdown: what is written of a character, and that what is escaped reads back; and blocks, one more.
+use Rattle.std.proofs.Common.{◌≡◌, ◌∙◌, ◌⊎◌, ◌<◌, ◌≤◌, ◌+◌, ℕ, true, false, List, [], ◌∷◌, ◌++◌, Option, Some, None, IfOk, Result, Ok, Err, String, append_assoc, get_or, length, map, string_bytes, take, ap, arith, refl, sym, inl, inr, if◌then◌else◌}
 use Rattle.std.specs.Prelude.{◌==◌, option_map}
 use Rattle.std.specs.Char.{encode_utf8}
 use Rattle.std.specs.Io.KnownBytes.{append_known}
 use Rattle.std.specs.List.{flat_map}
 use Rattle.std.proofs.lemmas.Bool.{cases_Bool, eqb-true, or_cases}
 use Rattle.std.proofs.lemmas.Bool.Decides.{nat_tests}
-use Rattle.std.proofs.lemmas.List.{append-nil, length-append, map_push}
+use Rattle.std.proofs.lemmas.List.{append-nil, length-append, map_push, take_more}
 use Rattle.std.proofs.lemmas.List.Concat.{flat_map-append}
 use Rattle.std.proofs.lemmas.Str.{encode_ascii}
 use Rattle.sl_report_forms.specs.Drafts.{Grows}
-use Rattle.sl_report_forms.specs.MarkdownForm.{Becomes, blocks_of, is_line_end, is_mark, joined, markdown_byte, markdown_escaped, on_one_line, parted, read_after, with_blocks}
-use Rattle.sl_report_forms.specs.Shown.{View, has_view, view_of}
-use Rattle.sl_report_forms.specs.declared.sheet.Sheet.{Sheet}
-use Rattle.sl_report_forms.proofs.ShownSteps.{ascii_char, plain_char, sheets_next}
+use Rattle.sl_report_forms.specs.MarkdownForm.{Becomes, is_line_end, is_mark, joined, markdown_byte, markdown_escaped, on_one_line, parted, read_after, with_blocks}
+use Rattle.sl_report_forms.proofs.ShownSteps.{ascii_char, plain_char}
 
 no_mark : (b : ℕ) → 128 ≤ b → is_mark b ≡ false
 no_mark b high = grind (arith, nat_tests)
@@ -82,19 +80,14 @@ after_block : (x text : List ℕ) → 0 < length text → with_blocks (x ∷ [])
 after_block x [] some = absurd (omega (arith, some))
 after_block x (c ∷ text) some = refl
 
--- what no block leaves empty
-abbrev pub Begins : (List ℕ → View → List ℕ) → Type 0
-Begins block = (title : List ℕ) (v : View) → 0 < length (block title v)
-
-blocks_more : (block : List ℕ → View → List ℕ) → Begins block → (ss : List Sheet) (x text : List ℕ) →
-    with_blocks (x ∷ []) (with_blocks (map (λ s. block (string_bytes s.title) (view_of s)) ss) text) ≡ with_blocks (map (λ s. block (string_bytes s.title) (view_of s)) ss ++ x ∷ []) text
-blocks_more block begins [] x [] = refl
-blocks_more block begins [] x (c ∷ text) = ap (λ t. joined ((c ∷ t) ∷ x ∷ [])) (append-nil text)
-blocks_more block begins (s ∷ ss) x [] =
-    let blocks = map (λ s. block (string_bytes s.title) (view_of s)) ss in
-    let first = block (string_bytes s.title) (view_of s) in
-    after_block x (joined (first ∷ blocks)) (omega (arith, begins (string_bytes s.title) (view_of s), length-append first (flat_map (λ y. 10 ∷ y) blocks))) ∙ joined_more first blocks x
-blocks_more block begins (s ∷ ss) x (c ∷ text) = joined_more (c ∷ text) (map (λ s. block (string_bytes s.title) (view_of s)) (s ∷ ss)) x
+blocks_more : {X : Type 0} (block : X → List ℕ) → ((x : X) → 0 < length (block x)) → (xs : List X) (b text : List ℕ) →
+    with_blocks (b ∷ []) (with_blocks (map block xs) text) ≡ with_blocks (map block xs ++ b ∷ []) text
+blocks_more block begins [] b [] = refl
+blocks_more block begins [] b (c ∷ text) = ap (λ t. joined ((c ∷ t) ∷ b ∷ [])) (append-nil text)
+blocks_more block begins (x ∷ xs) b [] =
+    after_block b (joined (map block (x ∷ xs))) (omega (arith, begins x, length-append (block x) (flat_map (λ y. 10 ∷ y) (map block xs))))
+    ∙ joined_more (block x) (map block xs) b
+blocks_more block begins (x ∷ xs) b (c ∷ text) = joined_more (c ∷ text) (map block (x ∷ xs)) b
 
 becomes_more : (a b c : Option (List ℕ)) (f g h : List ℕ → List ℕ) → ((text : List ℕ) → g (f text) ≡ h text) → Becomes a b f → Becomes b c g → Becomes a c h
 becomes_more a b c f g h same p (inr q) = inr q
@@ -104,23 +97,14 @@ becomes_more a b c f g h same (inl p) (inl q) = inl (q ∙ ap (option_map g) p �
   both None = refl
   both (Some text) = ap Some (same text)
 
--- one sheet more, that is shown
-pub sheet_more : (block : List ℕ → View → List ℕ) → Begins block → (sheets : List Sheet) (i : ℕ) (s : Sheet) (a b c : Option (List ℕ)) → i < length sheets → s ≡ get_or sheets i s → has_view s ≡ true →
-    Becomes a b (with_blocks (blocks_of block (take i sheets))) → Becomes b c (with_blocks (block (string_bytes s.title) (view_of s) ∷ [])) →
-    Becomes a c (with_blocks (blocks_of block (take (i + 1) sheets)))
-sheet_more block begins sheets i s a b c within is seen so_far more =
+-- one block more
+pub block_next : {X : Type 0} (block : X → List ℕ) → ((x : X) → 0 < length (block x)) → (xs : List X) (i : ℕ) (x : X) (a b c : Option (List ℕ)) → i < length xs → x ≡ get_or xs i x →
+    Becomes a b (with_blocks (map block (take i xs))) → Becomes b c (with_blocks (block x ∷ [])) → Becomes a c (with_blocks (map block (take (i + 1) xs)))
+block_next block begins xs i x a b c within is so_far more =
     becomes_more a b c _ _ _
-    (λ text. blocks_more block begins (filter has_view (take i sheets)) (block (string_bytes s.title) (view_of s)) text
-    ∙ ap (λ bs. with_blocks bs text) (sym (
-    ap (map (λ s. block (string_bytes s.title) (view_of s))) (sheets_next sheets i s true within is seen)
-    ∙ map_push (λ s. block (string_bytes s.title) (view_of s)) (filter has_view (take i sheets)) s)))
+    (λ text. blocks_more block begins (take i xs) (block x) text
+    ∙ ap (λ bs. with_blocks bs text) (sym (ap (map block) (take_more xs i x within ∙ ap (λ y. take i xs ++ y ∷ []) (sym is)) ∙ map_push block (take i xs) x)))
     so_far more
-
-pub sheet_same : (block : List ℕ → View → List ℕ) (sheets : List Sheet) (i : ℕ) (s : Sheet) (a b : Option (List ℕ)) → i < length sheets → s ≡ get_or sheets i s → has_view s ≡ false →
-    Becomes a b (with_blocks (blocks_of block (take i sheets))) → Becomes a b (with_blocks (blocks_of block (take (i + 1) sheets)))
-sheet_same block sheets i s a b within is unseen so_far =
-    subst (λ ss. Becomes a b (with_blocks (map (λ s. block (string_bytes s.title) (view_of s)) ss)))
-    (sym (sheets_next sheets i s false within is unseen ∙ append-nil (filter has_view (take i sheets)))) so_far
 
 -- a block after a text that may be empty
 pub block_more : (a b c : Option (List ℕ)) (block : List ℕ) → Becomes a b parted → Grows b c block → Becomes a c (with_blocks (block ∷ []))
@@ -131,3 +115,12 @@ block_more a b c block (inl p) (inl q) = inl (q ∙ ap (λ o. append_known o blo
   both None = refl
   both (Some []) = ap Some (sym (append-nil block))
   both (Some (c ∷ text)) = ap (λ zs. Some (c ∷ zs)) (append_assoc text (10 ∷ []) block ∙ ap (λ zs. text ++ 10 ∷ zs) (sym (append-nil block)))
+
+-- the text that is given at the end: blocks after a text that may be empty
+pub blocks_text : {E Z : Type 0} (r : Result (String Z) E) (a b c : Option (List ℕ)) (text : List ℕ) (blocks : List (List ℕ)) → a ≡ Some [] → Grows a b text → Becomes b c (with_blocks blocks) →
+    IfOk r (λ t. c ≡ Some (string_bytes t)) → IfOk r (λ t. string_bytes t ≡ with_blocks blocks text)
+blocks_text (Err e) a b c text blocks begin g h told = tt
+blocks_text (Ok t) a b c text blocks begin g (inr h) told = let e : Some (string_bytes t) ≡ None = sym told ∙ h in cc
+blocks_text (Ok t) a b c text blocks begin (inr g) (inl h) told = let e : Some (string_bytes t) ≡ None = sym told ∙ h ∙ ap (option_map (with_blocks blocks)) g in cc
+blocks_text (Ok t) a b c text blocks begin (inl g) (inl h) told =
+    let e : Some (string_bytes t) ≡ Some (with_blocks blocks text) = sym told ∙ h ∙ ap (option_map (with_blocks blocks)) (g ∙ ap (λ o. append_known o text) begin) in cc

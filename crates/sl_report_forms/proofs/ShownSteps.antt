@@ -1,21 +1,21 @@
 -- Texts and lists that are being written, one part more.
-use Rattle.std.proofs.Common.{◌≡◌, ◌∙◌, ◌⊎◌, ◌<◌, ◌≤◌, ℕ, suc, ◌+◌, Bool, true, false, cond, List, [], ◌∷◌, ◌++◌, Option, Some, None, Result, Ok, Err, String, IfSome, IfOk, OnOk, length, take, drop, get_or, map, filter, add-zero, append_assoc, ap, arith, refl, sym, subst, inl, inr, string_bytes}
+use Rattle.std.proofs.Common.{◌≡◌, ◌∙◌, ◌⊎◌, ◌<◌, ◌≤◌, ℕ, suc, ◌+◌, Bool, true, false, cond, List, [], ◌∷◌, ◌++◌, Option, Some, None, Result, Ok, Err, String, IfSome, IfOk, length, take, drop, get_or, map, filter, add-zero, append_assoc, ap, arith, refl, sym, subst, inl, inr, string_bytes}
 use Rattle.std.specs.Prelude.{◌==◌, not, option_map, option_to_list, slice_get}
 use Rattle.std.specs.List.{cons_option, enumerate_from, filter_map, flat_map}
 use Rattle.std.specs.Char.{encode_utf8}
 use Rattle.std.specs.Io.KnownBytes.{append_known}
 use Rattle.std.specs.Borrow.{Bor}
-use Rattle.std.specs.Result.{result_and}
 use Rattle.std.specs.Slice.{IsItemAt}
 use Rattle.std.proofs.lemmas.Bool.{cases_lt, ltb-false, ltb-true}
 use Rattle.std.proofs.lemmas.List.{append-nil, take-append-drop, map_push, take_more}
 use Rattle.std.proofs.Math.ListN.{length-take}
 use Rattle.std.proofs.lemmas.List.Concat.{flat_map-append}
-use Rattle.std.proofs.lemmas.List.Elements.{filter-append}
+use Rattle.std.proofs.lemmas.List.Elements.{filter-append, filter_map-append}
 use Rattle.std.proofs.lemmas.Option.{get_or_from_slice_get, slice_get-get_or, slice_get_past, slice_get_within}
 use Rattle.std.proofs.lemmas.Str.{encode_ascii, inside_one}
 use Rattle.sl_report_forms.specs.Drafts.{Gains, Grows}
-use Rattle.sl_report_forms.specs.Shown.{column_of, has_view, in_columns, view_in, view_of}
+use Rattle.sl_report_forms.specs.Shown.{column_of, has_view, in_columns, view_in, view_of, views_of}
+use Rattle.sl_report_forms.specs.declared.names.Names.{Names}
 use Rattle.sl_report_forms.specs.declared.sheet.Sheet.{Sheet}
 use Rattle.sl_report_forms.specs.declared.shown.Shown.{Shown}
 use Rattle.sl_report_forms.specs.declared.sheet.Head.{Head}
@@ -40,28 +40,26 @@ grow_as a b x y g e = subst (λ z. Grows a b z) e g
 take_next : {X : Type 0} (xs : List X) (i : ℕ) (x : X) → slice_get xs i ≡ Some x → take (i + 1) xs ≡ take i xs ++ x ∷ []
 take_next xs i x at = take_more xs i x (slice_get_within xs i x at) ∙ ap (λ y. take i xs ++ y ∷ []) (get_or_from_slice_get xs i x x at)
 
+pub flat_map_push : {A : Type 0} (f : A → List ℕ) (xs : List A) (x : A) → flat_map f (xs ++ x ∷ []) ≡ flat_map f xs ++ f x
+flat_map_push f xs x = flat_map-append f xs (x ∷ []) ∙ ap (λ ys. flat_map f xs ++ ys) (append-nil (f x))
+
 -- the bytes of one item more
 pub bytes_next : {X Y : Type 0} (g : X → Y) (f : Y → List ℕ) (xs : List X) (i : ℕ) (x : X) → i < length xs → x ≡ get_or xs i x →
     flat_map f (map g (take (i + 1) xs)) ≡ flat_map f (map g (take i xs)) ++ f (g x)
 bytes_next g f xs i x within is =
     ap (λ ys. flat_map f (map g ys)) (take_more xs i x within ∙ ap (λ y. take i xs ++ y ∷ []) (sym is))
-    ∙ ap (flat_map f) (map_push g (take i xs) x) ∙ flat_map-append f (map g (take i xs)) (g x ∷ [])
-    ∙ ap (λ ys. flat_map f (map g (take i xs)) ++ ys) (append-nil (f (g x)))
+    ∙ ap (flat_map f) (map_push g (take i xs) x) ∙ flat_map_push f (map g (take i xs)) (g x)
 
 pub grow_next : {X Y : Type 0} (g : X → Y) (f : Y → List ℕ) (xs : List X) (i : ℕ) (x : X) (a b c : Option (List ℕ)) → i < length xs → x ≡ get_or xs i x →
     Grows a b (flat_map f (map g (take i xs))) → Grows b c (f (g x)) → Grows a c (flat_map f (map g (take (i + 1) xs)))
 grow_next g f xs i x a b c within is so_far more = grow_as a c _ _ (grow_more a b c _ _ so_far more) (sym (bytes_next g f xs i x within is))
 
--- the text that is given at the end, if nothing before it failed
-pub grown_text : {A E Z : Type 0} (put : Result A E) (made r : Result (String Z) E) (a b : Option (List ℕ)) (bytes : List ℕ) → r ≡ result_and put made → a ≡ Some [] →
-    IfOk made (λ t. b ≡ Some (string_bytes t)) → OnOk put (Grows a b bytes) → IfOk r (λ t. string_bytes t ≡ bytes)
-grown_text (Err e) made r a b bytes is begin told g = subst (λ s. IfOk s (λ t. string_bytes t ≡ bytes)) (sym is) tt
-grown_text (Ok u) (Err e) r a b bytes is begin told g = subst (λ s. IfOk s (λ t. string_bytes t ≡ bytes)) (sym is) tt
-grown_text (Ok u) (Ok t) r a b bytes is begin told (inr g) = let e : Some (string_bytes t) ≡ None = sym told ∙ g in cc
-grown_text (Ok u) (Ok t) r a b bytes is begin told (inl g) =
-    let e : Some (string_bytes t) ≡ Some bytes = sym told ∙ g ∙ ap (λ o. append_known o bytes) begin in
-    let same : string_bytes t ≡ bytes = cc in
-    subst (λ s. IfOk s (λ t. string_bytes t ≡ bytes)) (sym is) same
+-- the text that is given at the end
+pub grown_text : {E Z : Type 0} (r : Result (String Z) E) (a b : Option (List ℕ)) (bytes : List ℕ) → a ≡ Some [] → IfOk r (λ t. b ≡ Some (string_bytes t)) → Grows a b bytes →
+    IfOk r (λ t. string_bytes t ≡ bytes)
+grown_text (Err e) a b bytes begin told g = tt
+grown_text (Ok t) a b bytes begin told (inr g) = let e : Some (string_bytes t) ≡ None = sym told ∙ g in cc
+grown_text (Ok t) a b bytes begin told (inl g) = let e : Some (string_bytes t) ≡ Some bytes = sym told ∙ g ∙ ap (λ o. append_known o bytes) begin in cc
 
 -- ---- lists
 pub gained : {A E : Type 0} (P Q : List A → Type 0) (before after : Option (List A)) (r : Result A E) → Gains before after r → IfSome before P →
@@ -86,21 +84,17 @@ pub filled : {A V E : Type 0} (P : List A → Type 0) (items : V → List A) (o 
 filled P items o (Ok v) is h = subst (λ s. IfSome s P) is h
 filled P items o (Err e) is h = tt
 
-cons-append : {B : Type 0} (o : Option B) (xs ys : List B) → cons_option o (xs ++ ys) ≡ cons_option o xs ++ ys
-cons-append None xs ys = refl
-cons-append (Some x) xs ys = refl
-
 only : {B : Type 0} (o : Option B) → cons_option o [] ≡ option_to_list o
 only None = refl
 only (Some x) = refl
 
-filter_map-append : {A B : Type 0} (f : A → Option B) (xs ys : List A) → filter_map f (xs ++ ys) ≡ filter_map f xs ++ filter_map f ys
-filter_map-append f [] ys = refl
-filter_map-append f (x ∷ xs) ys = ap (cons_option (f x)) (filter_map-append f xs ys) ∙ cons-append (f x) (filter_map f xs) (filter_map f ys)
-
 -- the first ones that a function gives, one more
 pub filter_map_next : {A B : Type 0} (f : A → Option B) (xs : List A) (i : ℕ) (x : A) → slice_get xs i ≡ Some x → filter_map f (take (i + 1) xs) ≡ filter_map f (take i xs) ++ option_to_list (f x)
 filter_map_next f xs i x at = ap (filter_map f) (take_next xs i x at) ∙ filter_map-append f (take i xs) (x ∷ []) ∙ ap (λ ys. filter_map f (take i xs) ++ ys) (only (f x))
+
+pub filter_map-map : {A B C : Type 0} (f : B → Option C) (g : A → B) (xs : List A) → filter_map f (map g xs) ≡ filter_map (λ x. f (g x)) xs
+filter_map-map f g [] = refl
+filter_map-map f g (x ∷ xs) = ap (cons_option (f (g x))) (filter_map-map f g xs)
 
 pub none_yet : {A B : Type 0} (f : A → Option B) (xs : List A) (i : ℕ) (x : A) → i < length xs → x ≡ get_or xs i x → filter_map f (take i xs) ≡ [] → f x ≡ None →
     filter_map f (take (i + 1) xs) ≡ []
@@ -173,15 +167,26 @@ module _ (p : ShownColumn → Bool) (heads : List Head) (i : ℕ) (h : Head) (wi
       ∙ append-nil (filter p (map column_of (enumerate_from 0 (take i heads)))))) so_far
 
 -- ---- sheets
-pub has_view_by : (s : Sheet) (shown : Shown) → view_in shown ≡ view_of s → has_view s ≡ not (length shown.columns.items == 0)
-has_view_by s shown e = ap (λ v. not (length v.columns == 0)) (sym e)
+has_view_by : (n : Names) (s : Sheet) (shown : Shown) → view_in shown ≡ view_of n s → has_view s ≡ not (length shown.columns.items == 0)
+has_view_by n s shown e = ap (λ v. not (length v.columns == 0)) (sym e)
 
--- one sheet more, if it is shown
-pub sheets_next : (sheets : List Sheet) (i : ℕ) (s : Sheet) (b : Bool) → i < length sheets → s ≡ get_or sheets i s → has_view s ≡ b →
+sheets_next : (sheets : List Sheet) (i : ℕ) (s : Sheet) (b : Bool) → i < length sheets → s ≡ get_or sheets i s → has_view s ≡ b →
     filter has_view (take (i + 1) sheets) ≡ filter has_view (take i sheets) ++ cond b (s ∷ []) []
 sheets_next sheets i s b within is seen =
     ap (filter has_view) (take_more sheets i s within ∙ ap (λ x. take i sheets ++ x ∷ []) (sym is))
     ∙ filter-append has_view (take i sheets) (s ∷ []) ∙ ap (λ t. filter has_view (take i sheets) ++ cond t (s ∷ []) []) seen
+
+-- one sheet more, if it is shown
+module _ (n : Names) (sheets : List Sheet) (i : ℕ) (s : Sheet) (shown : Shown) (within : i < length sheets) (is : s ≡ get_or sheets i s) (made : view_in shown ≡ view_of n s)
+    (views : List Shown) (so_far : map view_in views ≡ views_of n (take i sheets)) where
+  pub views_more : length shown.columns.items == 0 ≡ false → map view_in (views ++ shown ∷ []) ≡ views_of n (take (i + 1) sheets)
+  views_more seen =
+      map_push view_in views shown ∙ ap (λ vs. vs ++ view_in shown ∷ []) so_far ∙ ap (λ v. views_of n (take i sheets) ++ v ∷ []) made
+      ∙ sym (ap (map (view_of n)) (sheets_next sheets i s true within is (has_view_by n s shown made ∙ ap not seen)) ∙ map_push (view_of n) (filter has_view (take i sheets)) s)
+
+  pub views_same : length shown.columns.items == 0 ≡ true → map view_in views ≡ views_of n (take (i + 1) sheets)
+  views_same unseen =
+      so_far ∙ sym (ap (map (view_of n)) (sheets_next sheets i s false within is (has_view_by n s shown made ∙ ap not unseen) ∙ append-nil (filter has_view (take i sheets))))
 
 -- ---- bytes and characters
 plain_bytes : (f : ℕ → List ℕ) (bytes : List ℕ) → ((i : ℕ) → i < length bytes → f (get_or bytes i 0) ≡ get_or bytes i 0 ∷ []) → flat_map f bytes ≡ bytes
@@ -208,13 +213,6 @@ module _ (f : ℕ → List ℕ) (plain : (b : ℕ) → 128 ≤ b → f b ≡ b �
 abbrev pub SoFar : (ℕ → List ℕ) → List ℕ → List ℕ → Option (List ℕ) → Option (List ℕ) → Type 0
 SoFar f text rest a b = (done : List ℕ) × (text ≡ done ++ rest) × Grows a b (flat_map f done)
 
-pub so_far_none : (f : ℕ → List ℕ) (text rest : List ℕ) (a : Option (List ℕ)) → text ≡ rest → SoFar f text rest a a
-so_far_none f text rest a e = ([], e, grow_none a)
-
 pub so_far_more : (f : ℕ → List ℕ) (text rest next bytes : List ℕ) (a b c : Option (List ℕ)) → SoFar f text rest a b → rest ≡ bytes ++ next → Grows b c (flat_map f bytes) → SoFar f text next a c
 so_far_more f text rest next bytes a b c h e more =
     (h.0 ++ bytes, h.1 ∙ ap (λ xs. h.0 ++ xs) e ∙ sym (append_assoc h.0 bytes next), grow_as a c _ _ (grow_more a b c _ _ h.2 more) (sym (flat_map-append f h.0 bytes)))
-
-pub so_far_all : (f : ℕ → List ℕ) (text rest : List ℕ) (a b : Option (List ℕ)) → SoFar f text rest a b → length rest ≡ 0 → Grows a b (flat_map f text)
-so_far_all f text (c ∷ rest) a b h e = absurd (omega (arith, e))
-so_far_all f text [] a b h e = grow_as a b _ _ h.2 (ap (flat_map f) (sym (append-nil h.0) ∙ sym h.1))

@@ -9,7 +9,6 @@ use Rattle.std.specs.Str.{IsUtf8, chars, encode_utf8_all}
 use Rattle.std.proofs.Math.ListN.{length-take}
 use Rattle.std.proofs.lemmas.Bool.{cases_lt, le-ltb, lt-ltb}
 use Rattle.std.proofs.lemmas.List.{length-append, map_push, take_more}
-use Rattle.std.proofs.lemmas.List.Concat.{flat_map-append}
 use Rattle.std.proofs.lemmas.List.Sums.{sum_by-cons}
 use Rattle.std.proofs.lemmas.Option.{slice_get-get_or}
 use Rattle.std.proofs.lemmas.Str.{cons_from_encodes, encodes-append, encodes-chars, encodes_same}
@@ -107,9 +106,6 @@ module _ {A Z : Type 0} (columns : List A) (line : List (String Z)) (i : ℕ) (r
       ap (λ n. zip (take n columns) (map string_bytes line)) (add-one i)
       ∙ zip_same columns (map string_bytes line) i (text_at line i r None at is)
 
-pub flat_map_push : {A : Type 0} (f : A → List ℕ) (xs : List A) (x : A) → flat_map f (xs ++ x ∷ []) ≡ flat_map f xs ++ f x
-flat_map_push f xs x = flat_map-append f xs (x ∷ []) ∙ ap (λ ys. flat_map f xs ++ ys) (append-nil (f x))
-
 -- the bytes of one item more, after other bytes
 pub grow_after : {X Y : Type 0} (g : X → Y) (f : Y → List ℕ) (before : List ℕ) (xs : List X) (i : ℕ) (x : X) (a b c : Option (List ℕ)) → i < length xs → x ≡ get_or xs i x →
     Grows a b (before ++ flat_map f (map g (take i xs))) → Grows b c (f (g x)) → Grows a c (before ++ flat_map f (map g (take (i + 1) xs)))
@@ -162,5 +158,5 @@ module _ (v : View) where
     never true = refl
     never false = refl
 
-pub block_begins : (title : List ℕ) (v : View) → 0 < length (aligned_block title v)
-block_begins title v = subst (λ n. 0 < n) (sym (length-append (title ++ codes "\n") (aligned_table v))) (omega (arith, length-append title (codes "\n")))
+pub block_begins : (v : View) → 0 < length (aligned_block v)
+block_begins v = subst (λ n. 0 < n) (sym (length-append (v.title ++ codes "\n") (aligned_table v))) (omega (arith, length-append v.title (codes "\n")))

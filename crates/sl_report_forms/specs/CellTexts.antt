@@ -1,42 +1,67 @@
--- The texts of a cell: that for programs, whatever the language, and that for persons.
+-- The text of a cell: for a program, whatever the language, and for a person.
 use Rattle.std.specs.Prelude.{ℕ, List, [], ◌++◌, true, false, codes, nat_lt, string_bytes, if◌then◌else◌}
 use Rattle.std.specs.Fmt.{decimal}
 use Rattle.std.specs.Int.{abs_diff}
-use Rattle.std.specs.List.{join_by}
+use Rattle.sl_explain_texts.specs.Languages.{in_language}
+use Rattle.sl_explain_texts.specs.declared.language.Language.TheVariants.{English}
+use Rattle.sl_explain_texts.specs.declared.language.Language.{Language}
 use Rattle.sl_law_margins.specs.Decimals.{number_text}
+use Rattle.sl_law_meaning.specs.declared.fault.Item.{Item}
+use Rattle.sl_law_meaning.specs.declared.fault.Scope.TheVariants as scopes
+use Rattle.sl_law_meaning.specs.declared.fault.Scope.{Scope}
+use Rattle.sl_report_forms.specs.NameTexts.{condition_text, list_text, scope_name, scope_text, stage_text, text_in, word_of}
 use Rattle.sl_report_forms.specs.declared.cell.Cell.TheVariants as cell
 use Rattle.sl_report_forms.specs.declared.cell.Cell.{Cell}
+use Rattle.sl_report_forms.specs.declared.cell.Reader.TheVariants.{Person, Program}
+use Rattle.sl_report_forms.specs.declared.cell.Reader.{Reader}
+use Rattle.sl_report_forms.specs.declared.names.Length.TheVariants.{Full, Short}
+use Rattle.sl_report_forms.specs.declared.names.Names.{Names}
 
--- by how much a number is another than before: `-` in front where it is less, and this sign where it is more
-abbrev pub change_text : List ℕ → ℕ → ℕ → List ℕ
-change_text more number before =
-    (if nat_lt number before then codes "-" else if nat_lt before number then more else []) ++ decimal (abs_diff number before)
+abbrev pub language_for : Reader → Names → Language
+language_for Program n = English
+language_for Person n = n.language
+
+-- the sign of a number that is more than before
+abbrev pub more_sign : Reader → List ℕ
+more_sign Program = []
+more_sign Person = codes "+"
+
+-- by how much a number is another than before: with `-` where it is less
+abbrev pub change_text : Reader → ℕ → ℕ → List ℕ
+change_text reader number before =
+    (if nat_lt number before then codes "-" else if nat_lt before number then more_sign reader else []) ++ decimal (abs_diff number before)
 
 -- the two numbers of a fraction
 abbrev pub fraction_text : ℕ → ℕ → List ℕ
 fraction_text num den = decimal num ++ codes "/" ++ decimal den
 
--- what a program reads; names are separated by one blank
-abbrev pub key_text : Cell → List ℕ
-key_text cell.Empty = []
-key_text (cell.Text words) = string_bytes words
-key_text (cell.Number n) = decimal n
-key_text (cell.Decimal n) = number_text n
-key_text (cell.Fraction num den) = fraction_text num den
-key_text (cell.Change n before) = change_text [] n before
-key_text (cell.Word key shown) = string_bytes key
-key_text (cell.Flag true shown) = codes "yes"
-key_text (cell.Flag false shown) = codes "no"
-key_text (cell.Names keys shown) = join_by string_bytes (codes " ") keys.items
+-- the names of claimants in a scope
+abbrev pub claimants_text : Reader → Names → List Item → Scope → List ℕ
+claimants_text Program n entries scope = list_text n Short scopes.All (codes " ") entries
+claimants_text Person n entries scope = list_text n Full scope (codes ", ") entries
 
--- what a person reads
-abbrev pub shown_text : Cell → List ℕ
-shown_text cell.Empty = []
-shown_text (cell.Text words) = string_bytes words
-shown_text (cell.Number n) = decimal n
-shown_text (cell.Decimal n) = number_text n
-shown_text (cell.Fraction num den) = fraction_text num den
-shown_text (cell.Change n before) = change_text (codes "+") n before
-shown_text (cell.Word key shown) = string_bytes shown
-shown_text (cell.Flag is shown) = shown.now
-shown_text (cell.Names keys shown) = string_bytes shown
+abbrev pub text_for : Reader → Names → Cell → List ℕ
+text_for reader n cell.Empty = []
+text_for reader n (cell.Text words) = string_bytes words
+text_for reader n (cell.Prose words) = string_bytes words
+text_for reader n (cell.Number number) = decimal number
+text_for reader n (cell.Decimal number) = number_text number
+text_for reader n (cell.Fraction num den) = fraction_text num den
+text_for reader n (cell.Change number before) = change_text reader number before
+text_for reader n (cell.Flag true) = word_of (codes "yes") (codes "ja") (language_for reader n)
+text_for reader n (cell.Flag false) = word_of (codes "no") (codes "nein") (language_for reader n)
+text_for reader n (cell.Word word) = in_language (language_for reader n) word
+text_for reader n (cell.Condition cond) = condition_text (language_for reader n) cond
+text_for reader n (cell.Stage stage) = stage_text n stage
+text_for reader n (cell.Entry entry) = text_in n Short scopes.All entry
+text_for reader n (cell.EntryName entry scope) = text_in n Full scope entry
+text_for reader n (cell.Entries entries) = list_text n Short scopes.All (codes " ") entries.items
+text_for reader n (cell.Claimants entries scope) = claimants_text reader n entries.items scope
+text_for reader n (cell.Scope scope) = scope_text n scope
+text_for reader n (cell.ScopeName scope) = scope_name (language_for reader n) n scope
+
+abbrev pub key_text : Names → Cell → List ℕ
+key_text n cell = text_for Program n cell
+
+abbrev pub shown_text : Names → Cell → List ℕ
+shown_text n cell = text_for Person n cell

@@ -8,6 +8,7 @@ use Rattle.csv.specs.Writing.{default_writer, fields_written, has_written, row_t
 use Rattle.csv.specs.declared.writer.Writer.{Writer}
 use Rattle.sl_report_forms.specs.CellTexts.{key_text}
 use Rattle.sl_report_forms.specs.declared.cell.Cell.{Cell}
+use Rattle.sl_report_forms.specs.declared.names.Names.{Names}
 use Rattle.sl_report_forms.specs.declared.sheet.Sheet.{Sheet}
 
 -- ---- the records of sheets
@@ -17,26 +18,26 @@ abbrev pub heads_record : Sheet → List (List ℕ)
 heads_record s = s.key.now ∷ map (λ h. string_bytes h.key) s.heads.items
 
 -- the key of its sheet, and the texts of the cells
-abbrev pub row_record : List ℕ → List Cell → List (List ℕ)
-row_record key cells = key ∷ map key_text cells
+abbrev pub row_record : Names → List ℕ → List Cell → List (List ℕ)
+row_record names key cells = key ∷ map (key_text names) cells
 
-abbrev pub rows_records : Sheet → List (List (List ℕ))
-rows_records s = map (λ r. row_record s.key.now r.items) s.rows.items
+abbrev pub rows_records : Names → Sheet → List (List (List ℕ))
+rows_records names s = map (λ r. row_record names s.key.now r.items) s.rows.items
 
 abbrev pub has_key : List ℕ → Sheet → Bool
 has_key key s = bytes_eq s.key.now key
 
 -- the records of a sheet after others: its heads where none of those has its key, and its rows
-abbrev pub sheet_records : List Sheet → Sheet → List (List (List ℕ))
-sheet_records before s = (if list_any (has_key s.key.now) before then [] else heads_record s ∷ []) ++ rows_records s
+abbrev pub sheet_records : Names → List Sheet → Sheet → List (List (List ℕ))
+sheet_records names before s = (if list_any (has_key s.key.now) before then [] else heads_record s ∷ []) ++ rows_records names s
 
 -- the records of further sheets after others
-abbrev pub records_after : List Sheet → List Sheet → List (List (List ℕ))
-records_after before [] = []
-records_after before (s ∷ sheets) = sheet_records before s ++ records_after (before ++ s ∷ []) sheets
+abbrev pub records_after : Names → List Sheet → List Sheet → List (List (List ℕ))
+records_after names before [] = []
+records_after names before (s ∷ sheets) = sheet_records names before s ++ records_after names (before ++ s ∷ []) sheets
 
-abbrev pub comma_records : List Sheet → List (List (List ℕ))
-comma_records sheets = records_after [] sheets
+abbrev pub comma_records : Names → List Sheet → List (List (List ℕ))
+comma_records names sheets = records_after names [] sheets
 
 -- ---- their text
 
@@ -45,9 +46,9 @@ abbrev pub records_text : List (List (List ℕ)) → List ℕ
 records_text rows = flat_map (row_text default_writer) rows
 
 -- the text is what `csv` writes of the records of the sheets; and what it reads in the text, of any lengths, are these records
-pub record IsCommaText (sheets : List Sheet) (text : List ℕ) : Type 0 where
-  pub written : text ≡ records_text (comma_records sheets)
-  pub read : records default_config text ≡ comma_records sheets
+pub record IsCommaText (names : Names) (sheets : List Sheet) (text : List ℕ) : Type 0 where
+  pub written : text ≡ records_text (comma_records names sheets)
+  pub read : records default_config text ≡ comma_records names sheets
 
 -- ---- a writer of records
 

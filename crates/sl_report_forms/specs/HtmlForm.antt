@@ -1,19 +1,16 @@
--- Sheets as a page of HTML: a section with a title and a table for each sheet that is shown.
-use Rattle.std.specs.Prelude.{ℕ, Bool, ◌||◌, ◌==◌, Option, Some, None, List, [], ◌∷◌, ◌++◌, option_and_then, slice_get, string_bytes, codes, if◌then◌else◌}
-use Rattle.std.specs.List.{filter, filter_map, flat_map, zip}
+-- What is shown of sheets as a page of HTML: a section with a title and a table for each.
+use Rattle.std.specs.Prelude.{ℕ, Bool, ◌||◌, ◌==◌, Option, Some, None, List, [], ◌∷◌, ◌++◌, option_and_then, slice_get, codes, if◌then◌else◌}
+use Rattle.std.specs.List.{filter_map, flat_map, zip}
 use Rattle.std.specs.Str.{bytes_eq}
 use Rattle.sl_explain_texts.specs.declared.language.Language.TheVariants.{English, German}
 use Rattle.sl_explain_texts.specs.declared.language.Language.{Language}
-use Rattle.sl_report_forms.specs.declared.cell.Cell.TheVariants as cell
-use Rattle.sl_report_forms.specs.declared.cell.Cell.{Cell}
 use Rattle.sl_report_forms.specs.declared.html_form.TheConstants.{STYLE}
 use Rattle.sl_report_forms.specs.declared.html_form.Tag.TheVariants as tag
 use Rattle.sl_report_forms.specs.declared.html_form.Tag.{Tag}
 use Rattle.sl_report_forms.specs.declared.sheet.Look.TheVariants as look
 use Rattle.sl_report_forms.specs.declared.sheet.Look.{Look}
-use Rattle.sl_report_forms.specs.declared.sheet.Sheet.{Sheet}
 use Rattle.sl_report_forms.specs.declared.shown.ShownColumn.{ShownColumn}
-use Rattle.sl_report_forms.specs.Shown.{View, has_view, view_of}
+use Rattle.sl_report_forms.specs.Shown.{View}
 
 -- an entity stands for what HTML would read as markup
 abbrev pub html_byte : ℕ → List ℕ
@@ -59,25 +56,16 @@ html_table v =
     codes "<div class=\"table\">\n<table>\n<thead>\n" ++ html_row tag.Title tag.Title v.columns v.titles ++ codes "</thead>\n<tbody>\n"
     ++ flat_map (html_row tag.First tag.Other v.columns) v.rows ++ codes "</tbody>\n</table>\n</div>\n"
 
-abbrev pub html_section : List ℕ → View → List ℕ
-html_section title v = codes "<section>\n<h2>" ++ html_escaped title ++ codes "</h2>\n" ++ html_table v ++ codes "</section>\n"
+abbrev pub html_section : View → List ℕ
+html_section v = codes "<section>\n<h2>" ++ html_escaped v.title ++ codes "</h2>\n" ++ html_table v ++ codes "</section>\n"
 
--- the sections of the sheets that are shown
-abbrev pub html_sections : List Sheet → List ℕ
-html_sections sheets = flat_map (λ s. html_section (string_bytes s.title) (view_of s)) (filter has_view sheets)
-
-abbrev pub text_of : Cell → Option (List ℕ)
-text_of (cell.Text words) = Some (string_bytes words)
-text_of _ = None
-
--- the law of a sheet, if it is the one that names it: the text of its first cell
-abbrev pub law_in : Sheet → Option (List ℕ)
-law_in s =
-    if bytes_eq s.key.now (codes "law") then option_and_then text_of (option_and_then (λ row. slice_get row.items 0) (slice_get s.rows.items 0)) else None
+-- the law of a sheet, if it is the one that names it: the first text
+abbrev pub law_in : View → Option (List ℕ)
+law_in v = if bytes_eq v.key (codes "law") then option_and_then (λ row. slice_get row 0) (slice_get v.rows 0) else None
 
 -- the first law that a sheet names
-abbrev pub law_of : List Sheet → Option (List ℕ)
-law_of sheets = slice_get (filter_map law_in sheets) 0
+abbrev pub law_of : List View → Option (List ℕ)
+law_of views = slice_get (filter_map law_in views) 0
 
 -- a title, with a law if there is one
 abbrev pub with_law : List ℕ → Option (List ℕ) → List ℕ
@@ -104,10 +92,11 @@ html_fault None = []
 html_fault (Some line) = codes "<p><code>" ++ html_escaped line ++ codes "</code></p>\n"
 
 -- a page under this title
-abbrev pub html_page : Language → List ℕ → Option (List ℕ) → List Sheet → List ℕ
-html_page language title line sheets =
-    let titled = with_law title (law_of sheets) in
-    html_head (language_code language) titled ++ codes "<body>\n" ++ html_heading titled ++ html_fault line ++ html_sections sheets ++ codes "</body>\n</html>\n"
+abbrev pub html_page : Language → List ℕ → Option (List ℕ) → List View → List ℕ
+html_page language title line views =
+    let titled = with_law title (law_of views) in
+    html_head (language_code language) titled ++ codes "<body>\n" ++ html_heading titled ++ html_fault line ++ flat_map html_section views
+    ++ codes "</body>\n</html>\n"
 
 -- what HTML reads as markup
 abbrev pub is_markup : ℕ → Bool

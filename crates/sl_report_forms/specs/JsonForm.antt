@@ -8,13 +8,16 @@ use Rattle.serde_json.specs.View.{view, items_of, members_view}
 use Rattle.serde_json.specs.declared.value.Value.{Value}
 use Rattle.sl_explain_texts.specs.Codes.{code_word}
 use Rattle.sl_explain_texts.specs.declared.program.TheConstants.{VERSION}
-use Rattle.sl_law_margins.specs.Decimals.{number_text}
-use Rattle.sl_report_forms.specs.CellTexts.{fraction_text}
+use Rattle.sl_law_meaning.specs.declared.fault.Scope.TheVariants as scope
+use Rattle.sl_report_forms.specs.CellTexts.{key_text}
+use Rattle.sl_report_forms.specs.NameTexts.{text_in}
 use Rattle.sl_report_forms.specs.declared.cell.Cell.TheVariants as cell
 use Rattle.sl_report_forms.specs.declared.cell.Cell.{Cell}
 use Rattle.sl_report_forms.specs.declared.heading.DigestedInput.{DigestedInput}
 use Rattle.sl_report_forms.specs.declared.heading.Heading.{Heading}
 use Rattle.sl_report_forms.specs.declared.heading.Told.{Told}
+use Rattle.sl_report_forms.specs.declared.names.Length.TheVariants.{Short}
+use Rattle.sl_report_forms.specs.declared.names.Names.{Names}
 use Rattle.sl_report_forms.specs.declared.sheet.Head.{Head}
 use Rattle.sl_report_forms.specs.declared.sheet.Sheet.{Sheet}
 
@@ -36,31 +39,29 @@ text_or_null None = null
 abbrev pub change : ℕ → ℕ → Num
 change n before = if nat_lt n before then of_integer (neg_ℤ (pos (min (before - n) (2 ^ 63 - 1)))) else unsigned (n - before)
 
-abbrev pub cell_value : Cell → Data
-cell_value cell.Empty = null
-cell_value (cell.Text words) = string (string_bytes words)
-cell_value (cell.Number n) = number (unsigned n)
-cell_value (cell.Decimal n) = string (number_text n)
-cell_value (cell.Fraction num den) = string (fraction_text num den)
-cell_value (cell.Change n before) = number (change n before)
-cell_value (cell.Word key shown) = string (string_bytes key)
-cell_value (cell.Flag is shown) = boolean is
-cell_value (cell.Names keys shown) = array_of (map (λ key. string (string_bytes key)) keys.items)
+-- what is no number, flag or list is a text
+abbrev pub cell_value : Names → Cell → Data
+cell_value names cell.Empty = null
+cell_value names (cell.Number n) = number (unsigned n)
+cell_value names (cell.Change n before) = number (change n before)
+cell_value names (cell.Flag is) = boolean is
+cell_value names (cell.Claimants entries _) = array_of (map (λ entry. string (text_in names Short scope.All entry)) entries.items)
+cell_value names cell = string (key_text names cell)
 
 -- an object with each cell that stands below a head, by the head's key
-abbrev pub row_value : List Head → List Cell → Data
-row_value heads row = object_of (map (λ p. (string_bytes p.0.key, cell_value p.1)) (zip heads row))
+abbrev pub row_value : Names → List Head → List Cell → Data
+row_value names heads row = object_of (map (λ p. (string_bytes p.0.key, cell_value names p.1)) (zip heads row))
 
-abbrev pub sheet_rows : Sheet → List Data
-sheet_rows s = map (λ row. row_value s.heads.items row.items) s.rows.items
+abbrev pub sheet_rows : Names → Sheet → List Data
+sheet_rows names s = map (λ row. row_value names s.heads.items row.items) s.rows.items
 
 -- the rows of all sheets of a key, in their order
-abbrev pub table_value : List Sheet → List ℕ → Data
-table_value sheets key = array_of (flat_map sheet_rows (filter (λ s. bytes_eq s.key.now key) sheets))
+abbrev pub table_value : Names → List Sheet → List ℕ → Data
+table_value names sheets key = array_of (flat_map (sheet_rows names) (filter (λ s. bytes_eq s.key.now key) sheets))
 
 -- an object with one member for each key of the sheets
-abbrev pub tables_value : List Sheet → Data
-tables_value sheets = object_of (map (λ s. (s.key.now, table_value sheets s.key.now)) sheets)
+abbrev pub tables_value : Names → List Sheet → Data
+tables_value names sheets = object_of (map (λ s. (s.key.now, table_value names sheets s.key.now)) sheets)
 
 abbrev pub hex_digit : ℕ → ℕ
 hex_digit n = slice_index (codes "0123456789abcdef") n
@@ -102,8 +103,8 @@ heading_members heading status line why =
     ∷ []
 
 -- an object that tells of the command, and then of the tables
-abbrev pub report_value : List (List ℕ × Data) → List Sheet → Data
-report_value heading sheets = object_of (heading ++ (codes "tables", tables_value sheets) ∷ [])
+abbrev pub report_value : List (List ℕ × Data) → Names → List Sheet → Data
+report_value heading names sheets = object_of (heading ++ (codes "tables", tables_value names sheets) ∷ [])
 
 -- a text that is read as this value, and the end of its line
 abbrev pub IsLineOf : Data → List ℕ → Type 0
@@ -111,8 +112,9 @@ IsLineOf d text = (json : List ℕ) × (text ≡ json ++ codes "\n") × (read js
 
 -- The text, read again, has exactly the tables of the sheets, the command, its status, the line of its fault, its inputs, and the code of what is explained.
 -- The other words of an explanation are told nowhere here.
-abbrev pub IsJsonText : Heading → ℕ → Option (List ℕ) → List Sheet → List ℕ → Type 0
-IsJsonText heading status line sheets text = (why : Data) × MaybeExplains heading.told why × IsLineOf (report_value (heading_members heading status line why) sheets) text
+abbrev pub IsJsonText : Heading → ℕ → Option (List ℕ) → Names → List Sheet → List ℕ → Type 0
+IsJsonText heading status line names sheets text =
+    (why : Data) × MaybeExplains heading.told why × IsLineOf (report_value (heading_members heading status line why) names sheets) text
 
 -- ---- values that are being filled
 

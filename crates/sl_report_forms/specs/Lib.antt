@@ -6,6 +6,7 @@ pub mod Drafts
 pub mod HtmlForm
 pub mod JsonForm
 pub mod MarkdownForm
+pub mod NameTexts
 pub mod Shown
 pub mod Tables
 pub mod TextForm

@@ -1,12 +1,11 @@
--- Sheets as Markdown: the line of a fault as a block of code, and for each sheet that is shown a heading and a table.
-use Rattle.std.specs.Prelude.{◌≡◌, ◌⊎◌, ℕ, Bool, true, false, ◌||◌, ◌==◌, Option, Some, None, List, [], ◌∷◌, ◌++◌, map, option_map, string_bytes, codes, if◌then◌else◌}
+-- What is shown of sheets as Markdown: the line of a fault as a block of code, and for each sheet a heading and a table.
+use Rattle.std.specs.Prelude.{◌≡◌, ◌⊎◌, ℕ, Bool, true, false, ◌||◌, ◌==◌, Option, Some, None, List, [], ◌∷◌, ◌++◌, map, option_map, codes, if◌then◌else◌}
 use Rattle.std.specs.Char.{char_set_contains}
-use Rattle.std.specs.List.{filter, flat_map, join_by}
+use Rattle.std.specs.List.{flat_map, join_by}
 use Rattle.sl_report_forms.specs.declared.sheet.Look.TheVariants as look
 use Rattle.sl_report_forms.specs.declared.sheet.Look.{Look}
-use Rattle.sl_report_forms.specs.declared.sheet.Sheet.{Sheet}
 use Rattle.sl_report_forms.specs.declared.shown.ShownColumn.{ShownColumn}
-use Rattle.sl_report_forms.specs.Shown.{View, has_view, view_of}
+use Rattle.sl_report_forms.specs.Shown.{View}
 
 -- what Markdown may read as a mark
 abbrev pub is_mark : ℕ → Bool
@@ -43,12 +42,8 @@ markdown_sides columns = codes "|" ++ flat_map (λ column. side_of column.look) 
 abbrev pub markdown_table : View → List ℕ
 markdown_table v = markdown_line v.titles ++ markdown_sides v.columns ++ flat_map markdown_line v.rows
 
-abbrev pub markdown_block : List ℕ → View → List ℕ
-markdown_block title v = codes "## " ++ markdown_escaped title ++ codes "\n\n" ++ markdown_table v
-
--- the blocks of the sheets that are shown
-abbrev pub blocks_of : (List ℕ → View → List ℕ) → List Sheet → List (List ℕ)
-blocks_of block sheets = map (λ s. block (string_bytes s.title) (view_of s)) (filter has_view sheets)
+abbrev pub markdown_block : View → List ℕ
+markdown_block v = codes "## " ++ markdown_escaped v.title ++ codes "\n\n" ++ markdown_table v
 
 abbrev pub fault_blocks : Option (List ℕ) → List (List ℕ)
 fault_blocks None = []
@@ -58,8 +53,8 @@ fault_blocks (Some line) = (codes "    " ++ line ++ codes "\n") ∷ []
 abbrev pub joined : List (List ℕ) → List ℕ
 joined blocks = join_by (λ block. block) (codes "\n") blocks
 
-abbrev pub markdown_of : Option (List ℕ) → List Sheet → List ℕ
-markdown_of line sheets = joined (fault_blocks line ++ blocks_of markdown_block sheets)
+abbrev pub markdown_of : Option (List ℕ) → List View → List ℕ
+markdown_of line views = joined (fault_blocks line ++ map markdown_block views)
 
 -- the text is what this makes of the one before, or memory has run out
 abbrev pub Becomes : Option (List ℕ) → Option (List ℕ) → (List ℕ → List ℕ) → Type 0

@@ -1,9 +1,10 @@
--- What a person sees of a sheet: the columns that are not hidden and in which a row has something, their titles, and the texts of each row.
+-- What a person sees of sheets: of each its title, the columns that are not hidden and in which a row has something, their titles, and the texts of each row.
 use Rattle.std.specs.Prelude.{ℕ, Bool, true, false, not, ◌&&◌, ◌==◌, List, Option, Some, None, length, map, slice_get, string_bytes}
 use Rattle.std.specs.List.{enumerate_from, filter, filter_map, list_any}
 use Rattle.sl_report_forms.specs.CellTexts.{shown_text}
 use Rattle.sl_report_forms.specs.declared.cell.Cell.TheVariants as cell
 use Rattle.sl_report_forms.specs.declared.cell.Cell.{Cell}
+use Rattle.sl_report_forms.specs.declared.names.Names.{Names}
 use Rattle.sl_report_forms.specs.declared.sheet.Head.{Head}
 use Rattle.sl_report_forms.specs.declared.sheet.Look.TheVariants as look
 use Rattle.sl_report_forms.specs.declared.sheet.Look.{Look}
@@ -43,25 +44,31 @@ in_columns columns xs = filter_map (λ column. slice_get xs column.place) column
 abbrev pub titles_in : List ShownColumn → List Head → List (List ℕ)
 titles_in columns heads = map (λ h. string_bytes h.title) (in_columns columns heads)
 
-abbrev pub texts_in : List ShownColumn → List Cell → List (List ℕ)
-texts_in columns cells = map shown_text (in_columns columns cells)
+abbrev pub texts_in : Names → List ShownColumn → List Cell → List (List ℕ)
+texts_in names columns cells = map (shown_text names) (in_columns columns cells)
 
--- what is shown: the columns, their titles, and the texts of each row
+-- what is shown: the key and the title of the sheet, the columns, their titles, and the texts of each row
 pub record View : Type 0 where
+  pub key : List ℕ
+  pub title : List ℕ
   pub columns : List ShownColumn
   pub titles : List (List ℕ)
   pub rows : List (List (List ℕ))
 
-abbrev pub view_of : Sheet → View
-view_of s = let columns = shown_columns s in record {
+abbrev pub view_of : Names → Sheet → View
+view_of names s = let columns = shown_columns s in record {
+  key = s.key.now;
+  title = string_bytes s.title;
   columns = columns;
   titles = titles_in columns s.heads.items;
-  rows = map (λ row. texts_in columns row.items) s.rows.items;
+  rows = map (λ row. texts_in names columns row.items) s.rows.items;
 }
 
 -- the same of what the program made
 abbrev pub view_in : Shown → View
 view_in shown = record {
+  key = shown.key.now;
+  title = string_bytes shown.title;
   columns = shown.columns.items;
   titles = map string_bytes shown.titles.items;
   rows = map (λ row. map string_bytes row.items) shown.rows.items;
@@ -70,3 +77,7 @@ view_in shown = record {
 -- a sheet is shown that has a column which is
 abbrev pub has_view : Sheet → Bool
 has_view s = not (length (shown_columns s) == 0)
+
+-- what is shown of those
+abbrev pub views_of : Names → List Sheet → List View
+views_of names sheets = map (view_of names) (filter has_view sheets)

@@ -1,4 +1,4 @@
--- Sheets as aligned text: of each that is shown the title, a line of the titles of its columns, and a line for each row.
+-- What is shown of sheets as aligned text: of each the title, a line of the titles of its columns, and a line for each row.
 use Rattle.std.specs.Prelude.{◌≡◌, ◌⊎◌, ◌<◌, ◌≤◌, ℕ, Bool, false, not, nat_le, nat_lt, ◌&&◌, ◌||◌, ◌+◌, ◌-◌, List, [], ◌∷◌, ◌++◌, String, Vec, codes, if◌then◌else◌, length, map, max, option_map, replicate, slice_get, string_bytes, take, unwrap_or}
 use Rattle.std.specs.Char.{encode_utf8}
 use Rattle.std.specs.List.{enumerate_from, flat_map, fold, sum_by, zip}
@@ -6,10 +6,9 @@ use Rattle.std.specs.Str.{chars, encode_utf8_all, trim_end}
 use Rattle.unicode_width.specs.Width.{char_width, str_width}
 use Rattle.sl_report_forms.specs.declared.sheet.Look.TheVariants as look
 use Rattle.sl_report_forms.specs.declared.sheet.Look.{Look}
-use Rattle.sl_report_forms.specs.declared.sheet.Sheet.{Sheet}
 use Rattle.sl_report_forms.specs.declared.shown.ShownColumn.{ShownColumn}
 use Rattle.sl_report_forms.specs.declared.text_form.Column.{Column}
-use Rattle.sl_report_forms.specs.MarkdownForm.{blocks_of, joined}
+use Rattle.sl_report_forms.specs.MarkdownForm.{joined}
 use Rattle.sl_report_forms.specs.Shown.{View}
 
 -- the columns of a terminal that a text takes, and those of a character by itself, where one that controls takes none
@@ -103,9 +102,9 @@ lines_of v = if is_whole v then whole_lines v else cut_lines v
 abbrev pub aligned_table : View → List ℕ
 aligned_table v = flat_map (aligned_line (columns_of v.columns (lines_of v))) (lines_of v)
 
-abbrev pub aligned_block : List ℕ → View → List ℕ
-aligned_block title v = title ++ codes "\n" ++ aligned_table v
+abbrev pub aligned_block : View → List ℕ
+aligned_block v = v.title ++ codes "\n" ++ aligned_table v
 
--- the blocks of the sheets that are shown, with an empty line between them
-abbrev pub aligned_of : List Sheet → List ℕ
-aligned_of sheets = joined (blocks_of aligned_block sheets)
+-- their blocks, with an empty line between them
+abbrev pub aligned_of : List View → List ℕ
+aligned_of views = joined (map aligned_block views)

@@ -1,11 +1,16 @@
-//! The cells of a sheet.
+//! The cells of a sheet. Each stays what it shows, a number, a party or a word, until it is written.
 
 ghost use Rattle.std.specs.Prelude.{◌≡◌, IfOk, string_bytes};
+ghost use Rattle.sl_report_forms.specs.Cells.{content_of, known, known_decimal, known_flag};
 ghost use Rattle.sl_report_forms.specs.CellTexts as spec;
 
 use crate::draft::copied;
+use crate::names::{Length, Names};
+use crate::words::{NO, YES, condition_text};
 use sl_base_quotients::NoMemory;
+use sl_explain_texts::{Language, Message};
 use sl_law_margins::Decimal;
+use sl_law_meaning::{Cond, Item, Scope};
 use std::alloc::Global;
 use std::cmp::Ordering;
 
@@ -13,29 +18,61 @@ use std::cmp::Ordering;
 #[derive(Drop)]
 pub enum Cell {
     Empty,
+    /// A text that is the same for everybody.
     Text(String),
+    /// Sentences for a person, of which no definition tells.
+    Prose(String),
     Number(u64),
     Decimal(Decimal),
     /// A fraction by its two numbers, as they are.
     Fraction(u128, u128),
     /// A number and an earlier one: by how much it is more or less.
     Change(u64, u64),
-    /// A word: as programs know it, and as a person reads it.
-    Word { key: String, shown: String },
-    /// A flag, and the word for it that a person reads.
-    Flag { is: bool, shown: &'static str },
-    /// Names, at least one, and none of them with a blank: each as programs know it, and all as a person reads them.
-    Names { keys: Vec<String>, shown: String },
+    Flag(bool),
+    Word(Message),
+    Condition(Cond),
+    /// A stage of the book by its number, or the seats after the last one.
+    Stage(usize),
+    /// The short name of an entry.
+    Entry(Item),
+    /// The name of an entry that a reader sees in a scope.
+    EntryName(Item, Scope),
+    /// The short names of entries, separated by blanks.
+    Entries(Vec<Item>),
+    /// Entries of a scope, at least one: a list of short names for a program, and names that a reader sees there.
+    Claimants(Vec<Item>, Scope),
+    /// A scope by its short names.
+    Scope(Scope),
+    /// The name of a scope that a reader sees.
+    ScopeName(Scope),
 }
 
-// The difference of two numbers, with this sign where the first is the greater one.
-fn change_text(alloc: Global, more: &str, number: u64, before: u64) -> Result<String, NoMemory>
-    ensures { IfOk result (λ t. string_bytes t ≡ spec.change_text more.now number before) }
+/// Who reads the text of a cell: a program, for which it is the same in every language, or a person.
+#[derive(Clone, Copy)]
+pub enum Reader {
+    Program,
+    Person,
+}
+
+impl Reader {
+    fn language(self, names: &Names) -> Language
+        ensures { result ≡ spec.language_for self names.now }
+    {
+        match self {
+            Reader::Program => Language::English,
+            Reader::Person => names.language,
+        }
+    }
+}
+
+// The difference of two numbers, for a person with a sign where the first is the greater one.
+fn change_text(alloc: Global, reader: Reader, number: u64, before: u64) -> Result<String, NoMemory>
+    ensures { IfOk result (λ t. string_bytes t ≡ spec.change_text reader number before) }
 {
-    let sign = match number.cmp(&before) {
-        Ordering::Less => "-",
-        Ordering::Equal => "",
-        Ordering::Greater => more,
+    let sign = match (number.cmp(&before), reader) {
+        (Ordering::Less, _) => "-",
+        (Ordering::Greater, Reader::Person) => "+",
+        (_, _) => "",
     };
     let by = number.abs_diff(before);
     Ok(format!(in alloc; "{sign}{by}")?)
@@ -48,37 +85,80 @@ fn fraction_text(alloc: Global, num: u128, den: u128) -> Result<String, NoMemory
     Ok(format!(in alloc; "{num}/{den}")?)
 }
 
+// The names of claimants in a scope: short ones for a program, and for a person those that are seen there.
+fn claimants_text(
+    alloc: Global,
+    names: &Names,
+    reader: Reader,
+    entries: &[Item],
+    scope: Scope,
+) -> Result<String, NoMemory>
+    ensures { IfOk result (λ t. string_bytes t ≡ spec.claimants_text reader names.now entries.now scope) }
+{
+    match reader {
+        Reader::Program => names.list(alloc, Length::Short, Scope::All, entries, " "),
+        Reader::Person => names.list(alloc, Length::Full, scope, entries, ", "),
+    }
+}
+
 impl Cell {
-    /// What a program reads of the cell, whatever the language.
-    pub fn key(&self, alloc: Global) -> Result<String, NoMemory>
-        ensures { IfOk result (λ t. string_bytes t ≡ spec.key_text self.now) }
+    /// A number, or an empty cell.
+    pub fn known(number: Option<u64>) -> Cell
+        ensures { content_of result ≡ known number }
     {
-        let key = match self {
-            Cell::Word { key, .. } => key.as_str(),
-            Cell::Flag { is: true, .. } => "yes",
-            Cell::Flag { is: false, .. } => "no",
-            Cell::Names { keys, .. } => return Ok(keys.join(alloc, " ")?),
-            Cell::Change(number, before) => return change_text(alloc, "", *number, *before),
-            Cell::Empty | Cell::Text(_) | Cell::Number(_) | Cell::Decimal(_) | Cell::Fraction(..) =>
-                return self.shown(alloc),
-        };
-        copied(alloc, key)
+        match number {
+            Some(number) => Cell::Number(number),
+            None => Cell::Empty,
+        }
     }
 
-    /// What a person reads of the cell.
-    pub fn shown(&self, alloc: Global) -> Result<String, NoMemory>
-        ensures { IfOk result (λ t. string_bytes t ≡ spec.shown_text self.now) }
+    /// A decimal number, or an empty cell.
+    pub fn known_decimal(number: Option<Decimal>) -> Cell
+        ensures { content_of result ≡ known_decimal number }
     {
-        let shown = match self {
-            Cell::Empty => "",
-            Cell::Text(text) => text.as_str(),
-            Cell::Number(number) => return Ok(number.to_string(alloc)?),
-            Cell::Decimal(number) => return number.text(alloc),
-            Cell::Fraction(num, den) => return fraction_text(alloc, *num, *den),
-            Cell::Change(number, before) => return change_text(alloc, "+", *number, *before),
-            Cell::Word { shown, .. } | Cell::Names { shown, .. } => shown.as_str(),
-            Cell::Flag { shown, .. } => shown,
-        };
-        copied(alloc, shown)
+        match number {
+            Some(number) => Cell::Decimal(number),
+            None => Cell::Empty,
+        }
+    }
+
+    /// A flag, or an empty cell.
+    pub fn known_flag(flag: Option<bool>) -> Cell
+        ensures { content_of result ≡ known_flag flag }
+    {
+        match flag {
+            Some(flag) => Cell::Flag(flag),
+            None => Cell::Empty,
+        }
+    }
+
+    /// What a reader reads of the cell, by these names.
+    pub fn text(&self, alloc: Global, names: &Names, reader: Reader) -> Result<String, NoMemory>
+        ensures { IfOk result (λ t. string_bytes t ≡ spec.text_for reader names.now self.now) }
+    {
+        let language = reader.language(names);
+        match self {
+            Cell::Empty => copied(alloc, ""),
+            Cell::Text(text) | Cell::Prose(text) => copied(alloc, text.as_str()),
+            Cell::Number(number) => Ok(number.to_string(alloc)?),
+            Cell::Decimal(number) => number.text(alloc),
+            Cell::Fraction(num, den) => fraction_text(alloc, *num, *den),
+            Cell::Change(number, before) => change_text(alloc, reader, *number, *before),
+            Cell::Flag(true) => copied(alloc, YES.in_language(language)),
+            Cell::Flag(false) => copied(alloc, NO.in_language(language)),
+            Cell::Word(word) => copied(alloc, word.in_language(language)),
+            Cell::Condition(cond) => condition_text(alloc, language, *cond),
+            Cell::Stage(stage) => copied(alloc, names.stage(*stage)),
+            Cell::Entry(entry) => names.text(alloc, Length::Short, Scope::All, *entry),
+            Cell::EntryName(entry, scope) => names.text(alloc, Length::Full, *scope, *entry),
+            Cell::Entries(entries) => {
+                names.list(alloc, Length::Short, Scope::All, entries.as_slice(), " ")
+            }
+            Cell::Claimants(entries, scope) => {
+                claimants_text(alloc, names, reader, entries.as_slice(), *scope)
+            }
+            Cell::Scope(scope) => names.scope(alloc, *scope),
+            Cell::ScopeName(scope) => names.scope_name(alloc, language, *scope),
+        }
     }
 }

@@ -1,17 +1,16 @@
-//! Sheets as a page of HTML, for a screen of any width and for paper. It needs no other file.
+//! What is shown of sheets as a page of HTML, for a screen of any width and for paper. It needs no other file.
 
-ghost use Rattle.std.specs.Prelude.{◌≡◌, ◌<◌, ◌++◌, ◌∷◌, [], ℕ, IfOk, List, MatchOption, OnOk, map, option_map, string_bytes};
+ghost use Rattle.std.specs.Prelude.{◌≡◌, ◌<◌, ◌++◌, ◌∷◌, [], ℕ, IfOk, List, MatchOption, map, option_map, string_bytes};
 ghost use Rattle.std.specs.Char.{encode_utf8};
 ghost use Rattle.std.specs.List.{flat_map};
 ghost use Rattle.sl_report_forms.specs.Drafts.{Grows};
 ghost use Rattle.sl_report_forms.specs.HtmlForm as spec;
 ghost use Rattle.sl_report_forms.specs.Shown.{view_in};
 
-use crate::cell::Cell;
 use crate::draft::Draft;
 use crate::heading::Heading;
-use crate::sheet::{Look, Sheet};
-use crate::shown::{Shown, ShownColumn, shown_of};
+use crate::sheet::Look;
+use crate::shown::{Shown, ShownColumn};
 use sl_base_quotients::NoMemory;
 use sl_explain_texts::{Language, Message};
 use std::alloc::Global;
@@ -20,46 +19,28 @@ use std::alloc::Global;
 static TITLES: [(&str, Message); 5] = [
     (
         "report",
-        Message {
-            english: "Report on a count",
-            german: "Bericht über eine Auszählung",
-        },
+        Message("Report on a count", "Bericht über eine Auszählung"),
     ),
     (
         "report --short",
-        Message {
-            english: "Result of a count",
-            german: "Ergebnis einer Auszählung",
-        },
+        Message("Result of a count", "Ergebnis einer Auszählung"),
     ),
     (
         "stages",
-        Message {
-            english: "Stages of a count",
-            german: "Stufen einer Auszählung",
-        },
+        Message("Stages of a count", "Stufen einer Auszählung"),
     ),
     (
         "totals",
-        Message {
-            english: "Totals of returns",
-            german: "Summen von Wahlergebnissen",
-        },
+        Message("Totals of returns", "Summen von Wahlergebnissen"),
     ),
     (
         "compare",
-        Message {
-            english: "Rulebooks side by side",
-            german: "Regelwerke im Vergleich",
-        },
+        Message("Rulebooks side by side", "Regelwerke im Vergleich"),
     ),
 ];
 
 // The code of a language, as the head of a page names it.
-static LANGUAGE: Message = Message {
-    english: "en",
-    german: "de",
-};
+static LANGUAGE: Message = Message("en", "de");
 
 static STYLE: &str = ":root { color-scheme: light dark; }
 body { max-width: 64rem; margin: 1rem auto; padding: 0 1rem; font: 1rem/1.4 system-ui, sans-serif; }
@@ -216,27 +197,22 @@ fn put_table(out: &mut Draft, shown: &Shown)
 }
 
 // Adds what is shown of a sheet.
-fn put_shown(out: &mut Draft, title: &str, shown: &Shown)
-    ensures { Grows out.old out.new (spec.html_section title.now (view_in shown.now)) }
+fn put_shown(out: &mut Draft, shown: &Shown)
+    ensures { Grows out.old out.new (spec.html_section (view_in shown.now)) }
 {
     out.push_str("<section>\n<h2>");
-    put_text(out, title);
+    put_text(out, shown.title.as_str());
     out.push_str("</h2>\n");
     put_table(out, shown);
     out.push_str("</section>\n");
 }
 
-// Adds the sheets that are shown.
-fn put_sheets(alloc: Global, out: &mut Draft, sheets: &[Sheet]) -> Result<(), NoMemory>
-    ensures { OnOk result (Grows out.old out.new (spec.html_sections sheets.now)) }
+fn put_sheets(out: &mut Draft, sheets: &[Shown])
+    ensures { Grows out.old out.new (flat_map (λ shown. spec.html_section (view_in shown)) sheets.now) }
 {
-    for sheet in sheets {
-        let shown = shown_of(alloc, sheet)?;
-        if !shown.is_empty() {
-            put_shown(out, sheet.title.as_str(), &shown);
-        }
+    for shown in sheets {
+        put_shown(out, shown);
     }
-    Ok(())
 }
 
 // The title of the page of a command; the command itself where it has none.
@@ -250,24 +226,21 @@ fn title_of(language: Language, command: &'static str) -> &'static str {
 }
 
 // The law of a sheet, if it is the one that names it.
-fn law_in(sheet: &Sheet) -> Option<&str>
-    ensures { option_map (λ l. l.now) result ≡ spec.law_in sheet.now }
+fn law_in(shown: &Shown) -> Option<&str>
+    ensures { option_map (λ l. l.now) result ≡ spec.law_in (view_in shown.now) }
 {
-    if sheet.key != "law" {
+    if shown.key != "law" {
         return None;
     }
-    let Some(Cell::Text(law)) = sheet.rows.first()?.first() else {
-        return None;
-    };
-    Some(law.as_str())
+    Some(shown.rows.first()?.first()?.as_str())
 }
 
 // The first law that a sheet names.
-fn law_of(sheets: &[Sheet]) -> Option<&str>
-    ensures { option_map (λ l. l.now) result ≡ spec.law_of sheets.now }
+fn law_of(sheets: &[Shown]) -> Option<&str>
+    ensures { option_map (λ l. l.now) result ≡ spec.law_of (map view_in sheets.now) }
 {
-    for sheet in sheets {
-        if let Some(law) = law_in(sheet) {
+    for shown in sheets {
+        if let Some(law) = law_in(shown) {
             return Some(law);
         }
     }
@@ -326,15 +299,14 @@ fn put_fault(out: &mut Draft, line: Option<&str>)
     }
 }
 
-/// Sheets as a page of HTML, under the line of a legal fault, without its end, if there is one. The same sheets and columns are shown as in text, and
-/// no text is cut.
+/// What is shown of sheets as a page of HTML, under the line of a legal fault, without its end, if there is one. No text is cut.
 pub fn html_text(
     alloc: Global,
     heading: &Heading<'_>,
     line: Option<&str>,
-    sheets: &[Sheet],
+    sheets: &[Shown],
 ) -> Result<String, NoMemory>
-    ensures { IfOk result (λ t. (title : List ℕ) × (string_bytes t ≡ spec.html_page heading.now.language title (option_map (λ l. l.now) line.entry) sheets.now)) }
+    ensures { IfOk result (λ t. (title : List ℕ) × (string_bytes t ≡ spec.html_page heading.now.language title (option_map (λ l. l.now) line.entry) (map view_in sheets.now))) }
 {
     let title = title_of(heading.language, heading.command);
     let law = law_of(sheets);
@@ -343,7 +315,7 @@ pub fn html_text(
     out.push_str("<body>\n");
     put_heading(&mut out, title, law);
     put_fault(&mut out, line);
-    let put = put_sheets(alloc, &mut out, sheets);
+    put_sheets(&mut out, sheets);
     out.push_str("</body>\n</html>\n");
-    put.and(out.finished())
+    out.finished()
 }

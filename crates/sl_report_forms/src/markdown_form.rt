@@ -1,14 +1,14 @@
-//! Sheets as Markdown: a heading and a table for each that is shown.
+//! What is shown of sheets as Markdown: a heading and a table for each.
 
-ghost use Rattle.std.specs.Prelude.{◌≡◌, ◌++◌, ◌∷◌, [], IfOk, OnOk, codes, map, option_map, string_bytes};
+ghost use Rattle.std.specs.Prelude.{◌≡◌, ◌++◌, ◌∷◌, [], IfOk, codes, map, option_map, string_bytes};
 ghost use Rattle.std.specs.Char.{encode_utf8};
 ghost use Rattle.sl_report_forms.specs.Drafts.{Grows};
 ghost use Rattle.sl_report_forms.specs.MarkdownForm as spec;
 ghost use Rattle.sl_report_forms.specs.Shown.{view_in};
 
 use crate::draft::Draft;
-use crate::sheet::{Look, Sheet};
-use crate::shown::{Shown, ShownColumn, shown_of};
+use crate::sheet::Look;
+use crate::shown::{Shown, ShownColumn};
 use sl_base_quotients::NoMemory;
 use std::alloc::Global;
 
@@ -105,34 +105,29 @@ pub(crate) fn put_gap(out: &mut Draft)
 }
 
 // Adds what is shown of a sheet.
-fn put_block(out: &mut Draft, title: &str, shown: &Shown)
-    ensures { Grows out.old out.new (spec.markdown_block title.now (view_in shown.now)) }
+fn put_block(out: &mut Draft, shown: &Shown)
+    ensures { Grows out.old out.new (spec.markdown_block (view_in shown.now)) }
 {
     out.push_str("## ");
-    put_text(out, title);
+    put_text(out, shown.title.as_str());
     out.push_str("\n\n");
     put_table(out, shown);
 }
 
 // Adds what is shown of a sheet, after an empty line where it is not the first one.
-fn put_shown(out: &mut Draft, title: &str, shown: &Shown)
-    ensures { spec.Becomes out.old out.new (spec.with_blocks (spec.markdown_block title.now (view_in shown.now) ∷ [])) }
+fn put_shown(out: &mut Draft, shown: &Shown)
+    ensures { spec.Becomes out.old out.new (spec.with_blocks (spec.markdown_block (view_in shown.now) ∷ [])) }
 {
     put_gap(out);
-    put_block(out, title, shown);
+    put_block(out, shown);
 }
 
-// Adds the sheets that are shown.
-fn put_sheets(alloc: Global, out: &mut Draft, sheets: &[Sheet]) -> Result<(), NoMemory>
-    ensures { OnOk result (spec.Becomes out.old out.new (spec.with_blocks (spec.blocks_of spec.markdown_block sheets.now))) }
+fn put_sheets(out: &mut Draft, sheets: &[Shown])
+    ensures { spec.Becomes out.old out.new (spec.with_blocks (map (λ shown. spec.markdown_block (view_in shown)) sheets.now)) }
 {
-    for sheet in sheets {
-        let shown = shown_of(alloc, sheet)?;
-        if !shown.is_empty() {
-            put_shown(out, sheet.title.as_str(), &shown);
-        }
+    for shown in sheets {
+        put_shown(out, shown);
     }
-    Ok(())
 }
 
 // Adds the line of a legal fault, as a block of code.
@@ -144,19 +139,18 @@ fn put_fault(out: &mut Draft, line: &str)
     out.push('\n');
 }
 
-/// Sheets as Markdown, after the line of a legal fault, without its end, if there is one. The same sheets and columns are shown as in text, and no
-/// text is cut.
+/// What is shown of sheets as Markdown, after the line of a legal fault, without its end, if there is one. No text is cut.
 pub fn markdown_text(
     alloc: Global,
     line: Option<&str>,
-    sheets: &[Sheet],
+    sheets: &[Shown],
 ) -> Result<String, NoMemory>
-    ensures { IfOk result (λ t. string_bytes t ≡ spec.markdown_of (option_map (λ l. l.now) line.entry) sheets.now) }
+    ensures { IfOk result (λ t. string_bytes t ≡ spec.markdown_of (option_map (λ l. l.now) line.entry) (map view_in sheets.now)) }
 {
     let mut out = Draft::new(alloc);
     if let Some(line) = line {
         put_fault(&mut out, line);
     }
-    let put = put_sheets(alloc, &mut out, sheets);
-    put.and(out.finished())
+    put_sheets(&mut out, sheets);
+    out.finished()
 }

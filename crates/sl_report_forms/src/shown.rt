@@ -1,10 +1,11 @@
-//! What a person sees of a sheet, as texts: the columns that are not hidden, and in which a row has something.
+//! What a person sees of sheets, as texts: of each the columns that are not hidden, and in which a row has something.
 
 ghost use Rattle.std.specs.Prelude.{◌≡◌, ◌==◌, IfOk, length, map, slice_get, string_bytes};
 ghost use Rattle.sl_report_forms.specs.Shown as spec;
 
-use crate::cell::Cell;
+use crate::cell::{Cell, Reader};
 use crate::draft::{Filled, copied};
+use crate::names::Names;
 use crate::sheet::{Head, Look, Sheet};
 use sl_base_quotients::NoMemory;
 use std::alloc::Global;
@@ -16,9 +17,11 @@ pub(crate) struct ShownColumn {
     pub(crate) look: Look,
 }
 
-/// What is shown of a sheet: the columns, their titles, and the rows. No text is cut.
+/// What is shown of a sheet: its key, its title, the columns, their titles, and the rows. No text is cut.
 #[derive(Drop)]
-pub(crate) struct Shown {
+pub struct Shown {
+    pub(crate) key: &'static str,
+    pub(crate) title: String,
     pub(crate) columns: Vec<ShownColumn>,
     pub(crate) titles: Vec<String>,
     pub(crate) rows: Vec<Vec<String>>,
@@ -84,13 +87,18 @@ fn titles(alloc: Global, heads: &[Head], columns: &[ShownColumn]) -> Result<Vec<
 }
 
 // The texts of a row in these columns.
-fn shown_row(alloc: Global, row: &[Cell], columns: &[ShownColumn]) -> Result<Vec<String>, NoMemory>
-    ensures { IfOk result (λ v. map string_bytes v.items ≡ spec.texts_in columns.now row.now) }
+fn shown_row(
+    alloc: Global,
+    names: &Names,
+    row: &[Cell],
+    columns: &[ShownColumn],
+) -> Result<Vec<String>, NoMemory>
+    ensures { IfOk result (λ v. map string_bytes v.items ≡ spec.texts_in names.now columns.now row.now) }
 {
     let mut texts = Filled::new(alloc);
     for column in columns {
         if let Some(cell) = row.get(column.place) {
-            texts.push(cell.shown(alloc));
+            texts.push(cell.text(alloc, names, Reader::Person));
         }
     }
     texts.finished()
@@ -98,37 +106,55 @@ fn shown_row(alloc: Global, row: &[Cell], columns: &[ShownColumn]) -> Result<Vec
 
 fn shown_rows(
     alloc: Global,
+    names: &Names,
     sheet: &Sheet,
     columns: &[ShownColumn],
 ) -> Result<Vec<Vec<String>>, NoMemory>
-    ensures { IfOk result (λ v. map (λ r. map string_bytes r.items) v.items ≡ map (λ r. spec.texts_in columns.now r.items) sheet.now.rows.items) }
+    ensures { IfOk result (λ v. map (λ r. map string_bytes r.items) v.items ≡ map (λ r. spec.texts_in names.now columns.now r.items) sheet.now.rows.items) }
 {
     let mut rows = Filled::new(alloc);
     for row in &sheet.rows {
-        rows.push(shown_row(alloc, row.as_slice(), columns));
+        rows.push(shown_row(alloc, names, row.as_slice(), columns));
     }
     rows.finished()
 }
 
 impl Shown {
-    /// Whether no column is shown.
-    pub(crate) fn is_empty(&self) -> bool
+    // Whether no column is shown.
+    fn is_empty(&self) -> bool
         ensures { result ≡ (length self.now.columns.items == 0) }
     {
         self.columns.is_empty()
     }
 }
 
-/// What is shown of a sheet: nothing where no row has something in a column that is not hidden.
-pub(crate) fn shown_of(alloc: Global, sheet: &Sheet) -> Result<Shown, NoMemory>
-    ensures { IfOk result (λ v. spec.view_in v ≡ spec.view_of sheet.now) }
+// What is shown of a sheet: nothing where no row has something in a column that is not hidden.
+fn shown_of(alloc: Global, names: &Names, sheet: &Sheet) -> Result<Shown, NoMemory>
+    ensures { IfOk result (λ v. spec.view_in v ≡ spec.view_of names.now sheet.now) }
 {
+    let title = copied(alloc, sheet.title.as_str())?;
     let columns = columns(alloc, sheet)?;
     let titles = titles(alloc, sheet.heads.as_slice(), columns.as_slice())?;
-    let rows = shown_rows(alloc, sheet, columns.as_slice())?;
+    let rows = shown_rows(alloc, names, sheet, columns.as_slice())?;
     Ok(Shown {
+        key: sheet.key,
+        title,
         columns,
         titles,
         rows,
     })
+}
+
+/// What is shown of each sheet that has a column which is, by these names.
+pub fn shown_sheets(alloc: Global, names: &Names, sheets: &[Sheet]) -> Result<Vec<Shown>, NoMemory>
+    ensures { IfOk result (λ v. map spec.view_in v.items ≡ spec.views_of names.now sheets.now) }
+{
+    let mut all: Vec<Shown> = Vec::new(alloc);
+    for sheet in sheets {
+        let shown = shown_of(alloc, names, sheet)?;
+        if !shown.is_empty() {
+            all.push(shown)?;
+        }
+    }
+    Ok(all)
 }

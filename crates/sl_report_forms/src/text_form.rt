@@ -1,18 +1,18 @@
-//! Sheets as aligned text, by the columns that a terminal needs for each character.
+//! What is shown of sheets as aligned text, by the columns that a terminal needs for each character.
 
 ghost use Rattle.std.specs.Prelude.{◌≡◌, ◌∷◌, [], false, IfOk, OnOk, map, replicate, string_bytes};
 ghost use Rattle.std.specs.Char.{encode_utf8};
 ghost use Rattle.std.specs.List.{flat_map};
 ghost use Rattle.std.specs.Str.{chars, encode_utf8_all};
 ghost use Rattle.sl_report_forms.specs.Drafts.{Grows};
-ghost use Rattle.sl_report_forms.specs.MarkdownForm.{Becomes, blocks_of, with_blocks};
+ghost use Rattle.sl_report_forms.specs.MarkdownForm.{Becomes, with_blocks};
 ghost use Rattle.sl_report_forms.specs.Shown.{view_in};
 ghost use Rattle.sl_report_forms.specs.TextForm as spec;
 
 use crate::draft::{Draft, Filled};
 use crate::markdown_form::put_gap;
-use crate::sheet::{Look, Sheet};
-use crate::shown::{Shown, ShownColumn, shown_of};
+use crate::sheet::Look;
+use crate::shown::{Shown, ShownColumn};
 use sl_base_quotients::NoMemory;
 use std::alloc::Global;
 use unicode_width::{UnicodeWidthChar, UnicodeWidthStr};
@@ -265,39 +265,34 @@ fn put_table(alloc: Global, out: &mut Draft, shown: &Shown) -> Result<(), NoMemo
 }
 
 // Adds what is shown of a sheet: its title and its table.
-fn put_block(alloc: Global, out: &mut Draft, title: &str, shown: &Shown) -> Result<(), NoMemory>
-    ensures { OnOk result (Grows out.old out.new (spec.aligned_block title.now (view_in shown.now))) }
+fn put_block(alloc: Global, out: &mut Draft, shown: &Shown) -> Result<(), NoMemory>
+    ensures { OnOk result (Grows out.old out.new (spec.aligned_block (view_in shown.now))) }
 {
-    out.push_str(title);
+    out.push_str(shown.title.as_str());
     out.push('\n');
     put_table(alloc, out, shown)
 }
 
 // Adds what is shown of a sheet, after an empty line where it is not the first one.
-fn put_shown(alloc: Global, out: &mut Draft, title: &str, shown: &Shown) -> Result<(), NoMemory>
-    ensures { OnOk result (Becomes out.old out.new (with_blocks (spec.aligned_block title.now (view_in shown.now) ∷ []))) }
+fn put_shown(alloc: Global, out: &mut Draft, shown: &Shown) -> Result<(), NoMemory>
+    ensures { OnOk result (Becomes out.old out.new (with_blocks (spec.aligned_block (view_in shown.now) ∷ []))) }
 {
     put_gap(out);
-    put_block(alloc, out, title, shown)
+    put_block(alloc, out, shown)
 }
 
-// Adds the sheets that are shown.
-fn put_sheets(alloc: Global, out: &mut Draft, sheets: &[Sheet]) -> Result<(), NoMemory>
-    ensures { OnOk result (Becomes out.old out.new (with_blocks (blocks_of spec.aligned_block sheets.now))) }
+fn put_sheets(alloc: Global, out: &mut Draft, sheets: &[Shown]) -> Result<(), NoMemory>
+    ensures { OnOk result (Becomes out.old out.new (with_blocks (map (λ shown. spec.aligned_block (view_in shown)) sheets.now))) }
 {
-    for sheet in sheets {
-        let shown = shown_of(alloc, sheet)?;
-        if !shown.is_empty() {
-            put_shown(alloc, out, sheet.title.as_str(), &shown)?;
-        }
+    for shown in sheets {
+        put_shown(alloc, out, shown)?;
     }
     Ok(())
 }
 
-/// Sheets as aligned text, with an empty line between them. One without rows, or without a column that is shown, is left
-/// out. Texts are cut where their table would be too wide.
-pub fn aligned_text(alloc: Global, sheets: &[Sheet]) -> Result<String, NoMemory>
-    ensures { IfOk result (λ t. string_bytes t ≡ spec.aligned_of sheets.now) }
+/// What is shown of sheets as aligned text, with an empty line between them. Texts are cut where their table would be too wide.
+pub fn aligned_text(alloc: Global, sheets: &[Shown]) -> Result<String, NoMemory>
+    ensures { IfOk result (λ t. string_bytes t ≡ spec.aligned_of (map view_in sheets.now)) }
 {
     let mut out = Draft::new(alloc);
     let put = put_sheets(alloc, &mut out, sheets);

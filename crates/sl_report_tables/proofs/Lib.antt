@@ -5,6 +5,6 @@ pub mod MoreTables
 pub mod ComparedRows
 pub mod Divisors
 pub mod GrowingTables
-pub mod VotesRows
 pub mod EarlierSteps
 pub mod PairsOfNames
+pub mod MoreNames

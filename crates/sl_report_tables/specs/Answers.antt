@@ -8,9 +8,12 @@ use Rattle.sl_report_forms.specs.CommaForm.{IsCommaText}
 use Rattle.sl_report_forms.specs.HtmlForm.{html_page}
 use Rattle.sl_report_forms.specs.JsonForm.{IsJsonText}
 use Rattle.sl_report_forms.specs.MarkdownForm.{markdown_of}
+use Rattle.sl_report_forms.specs.Shown.{View, views_of}
 use Rattle.sl_report_forms.specs.TextForm.{aligned_of}
 use Rattle.sl_report_forms.specs.Tables.{Table, table_of}
 use Rattle.sl_report_forms.specs.declared.heading.Heading.{Heading}
+use Rattle.sl_law_meaning.specs.returns.Election.{Election}
+use Rattle.sl_report_tables.specs.Naming.{AreNames}
 use Rattle.sl_report_tables.specs.declared.answer.Answer.{Answer}
 use Rattle.sl_report_forms.specs.declared.shape.Shape.TheVariants as shape
 use Rattle.sl_report_forms.specs.declared.shape.Shape.{Shape}
@@ -19,9 +22,9 @@ use Rattle.sl_report_forms.specs.declared.shape.Shape.{Shape}
 abbrev pub tables_of : Answer → List Table
 tables_of a = map table_of a.sheets.items
 
--- a command was done: it has such tables, and no line
-abbrev pub HasTables : (List Table → Type 0) → Answer → Type 0
-HasTables Are a = (a.status ≡ Done) × (a.line.items ≡ []) × Are (tables_of a)
+-- a command on returns was done: it has such tables, with the names of the returns, and no line
+abbrev pub HasTables : Election → (List Table → Type 0) → Answer → Type 0
+HasTables e Are a = (a.status ≡ Done) × (a.line.items ≡ []) × AreNames [] e a.names × Are (tables_of a)
 
 -- a refusal has no table
 abbrev pub IsRefusal : Answer → Type 0
@@ -30,6 +33,10 @@ IsRefusal a = (a.status ≡ Refused) × (a.sheets.items ≡ [])
 -- it has this line
 abbrev pub IsRefusedBy : List ℕ → Answer → Type 0
 IsRefusedBy line a = IsRefusal a × (a.line.items ≡ line)
+
+-- what a person sees of its sheets
+abbrev pub views_in : Answer → List View
+views_in a = views_of a.names a.sheets.items
 
 -- ---- texts
 
@@ -50,12 +57,12 @@ below_line (c ∷ line) sheets = (c ∷ line) ++ 10 ∷ sheets
 -- the text of an answer with such a status: in JSON its tables; else of a refusal the line, and of others the sheets, with the line of a legal fault. Nothing
 -- is said of the title that HTML has for a command
 abbrev pub IsTextOf : Shape → Heading → Status → Answer → List ℕ → Type 0
-IsTextOf shape.Json heading status a text = OfLine (λ line. IsJsonText heading (status_number status) line a.sheets.items text) a
+IsTextOf shape.Json heading status a text = OfLine (λ line. IsJsonText heading (status_number status) line a.names a.sheets.items text) a
 IsTextOf shape heading Refused a text = text ≡ a.line.items
-IsTextOf shape.Comma heading status a text = IsCommaText a.sheets.items text
-IsTextOf shape.Markdown heading status a text = OfLine (λ line. text ≡ markdown_of line a.sheets.items) a
-IsTextOf shape.Html heading status a text = OfLine (λ line. (title : List ℕ) × (text ≡ html_page heading.language title line a.sheets.items)) a
-IsTextOf shape.Text heading status a text = text ≡ below_line a.line.items (aligned_of a.sheets.items)
+IsTextOf shape.Comma heading status a text = IsCommaText a.names a.sheets.items text
+IsTextOf shape.Markdown heading status a text = OfLine (λ line. text ≡ markdown_of line (views_in a)) a
+IsTextOf shape.Html heading status a text = OfLine (λ line. (title : List ℕ) × (text ≡ html_page heading.language title line (views_in a))) a
+IsTextOf shape.Text heading status a text = text ≡ below_line a.line.items (aligned_of (views_in a))
 
 abbrev pub IsAnswerText : Shape → Heading → Answer → List ℕ → Type 0
 IsAnswerText shape heading a text = IsTextOf shape heading a.status a text

@@ -1,15 +1,18 @@
 -- The tables of several rulebooks, side by side (docs/report.md).
 use Rattle.std.specs.List.{AllZip, flat_map, list_any}
 use Rattle.std.specs.Prelude.{◌≡◌, ℕ, ◌-◌, Bool, ◌&&◌, List, [], ◌∷◌, ◌++◌, Option, Some, None, codes, count_by, drop, filter, if◌then◌else◌, map, nat_eq, nat_lt, option_map, string_bytes, sum_by, unwrap_or}
-use Rattle.sl_report_forms.specs.Cells.{Content, a_change, a_number, a_text, known, nothing}
+use Rattle.sl_report_forms.specs.Cells.{Content, a_change, a_number, a_text, an_entry, known, nothing}
 use Rattle.sl_report_forms.specs.Tables.{Table}
 use Rattle.sl_report_parties.specs.Seats.{all_seats, is_open, party_seats}
 use Rattle.sl_report_parties.specs.Sums.{capped}
 use Rattle.sl_report_tables.specs.Parties.{house_of}
-use Rattle.sl_report_tables.specs.Parts.{a_name}
+use Rattle.sl_report_tables.specs.Faults.{kind_cell}
+use Rattle.sl_report_tables.specs.Naming.{text_of}
+use Rattle.sl_report_tables.specs.Parts.{full_name, party_cell, party_name_cell}
 use Rattle.sl_report_tables.specs.declared.compare.Judged.{Judged}
 use Rattle.sl_law_meaning.specs.declared.book.Book.{Book}
 use Rattle.sl_law_meaning.specs.declared.count.Counted.{Counted}
+use Rattle.sl_law_meaning.specs.declared.fault.Item.TheVariants as item
 use Rattle.sl_law_meaning.specs.declared.fault.LegalFault.{LegalFault}
 use Rattle.sl_law_meaning.specs.declared.table.ListSeats.{ListSeats}
 use Rattle.sl_law_meaning.specs.returns.Election.{Election, has_list}
@@ -18,24 +21,30 @@ use Rattle.sl_law_meaning.specs.returns.Facts.{lands, parties}
 -- the word for a legal fault, where there is one
 abbrev pub fault_cell : Option LegalFault → Content
 fault_cell None = nothing
-fault_cell (Some fault) = a_text
+fault_cell (Some fault) = kind_cell fault.kind
 
 -- ---- a line for each book
 
--- the seats in all, those beyond the house, and the winners who are not seated
-abbrev pub book_cells : Election → Book → Option Counted → List Content
-book_cells e book None = nothing ∷ nothing ∷ nothing ∷ []
-book_cells e book (Some c) =
-    a_number (all_seats c.table).seats
-    ∷ a_number ((all_seats c.table).seats - house_of book e)
-    ∷ a_number (count_by is_open c.table.placed) ∷ []
+-- the seats in all, where there is a count
+abbrev pub seats_of : Option Counted → Option ℕ
+seats_of c = option_map (λ c. (all_seats c.table).seats) c
+
+-- those beyond the house
+abbrev pub beyond : Election → Book → Option Counted → Option ℕ
+beyond e book c = option_map (λ seats. seats - house_of book e) (seats_of c)
+
+-- the winners who are not seated
+abbrev pub unseated : Option Counted → Option ℕ
+unseated c = option_map (λ c. count_by is_open c.table.placed) c
 
 -- the word and the law of the book, what it distributes, where it differs from the first book, and its fault
-abbrev pub book_row : Election → Judged → List Content → List Content
-book_row e j differs = a_text ∷ a_text ∷ book_cells e j.book.book j.counted ++ differs ++ fault_cell j.fault ∷ []
+abbrev pub book_row : Election → Judged → Content → List Content
+book_row e j differs =
+    a_text (string_bytes j.word) ∷ a_text (text_of j.book.book.law.items) ∷ known (seats_of j.counted) ∷ known (beyond e j.book.book j.counted)
+    ∷ known (unseated j.counted) ∷ differs ∷ fault_cell j.fault ∷ []
 
 abbrev pub IsBookRow : Election → Judged → List Content → Type 0
-IsBookRow e j row = (differs : Content) × (row ≡ book_row e j (differs ∷ []))
+IsBookRow e j row = (differs : Content) × (row ≡ book_row e j differs)
 
 pub record IsBooksTable (e : Election) (books : List Judged) (t : Table) : Type 0 where
   pub key : t.key ≡ codes "books"
@@ -47,10 +56,9 @@ pub record IsBooksTable (e : Election) (books : List Judged) (t : Table) : Type 
 abbrev pub compared : Election → List (Option ℕ)
 compared e = None ∷ map Some (parties e)
 
--- the word for all, or the names of a party
+-- the names of a party, or the word for all
 abbrev pub compared_name : Option ℕ → List Content
-compared_name None = nothing ∷ a_text ∷ []
-compared_name (Some party) = a_name
+compared_name party = party_cell party ∷ party_name_cell party (codes "all") (codes "alle") ∷ []
 
 -- the seats by a count: all of them, or those of a party
 abbrev pub seats_in : Election → Option ℕ → Counted → ℕ
@@ -137,7 +145,7 @@ list_seats_cell land party j = number_or_fault (list_seats land party) j.counted
 
 -- the Land, the party, and the seats by each book or the word for its fault
 abbrev pub list_seats_row : List Judged → (land party : ℕ) → List Content
-list_seats_row books land party = a_name ++ a_name ++ map (list_seats_cell land party) books
+list_seats_row books land party = an_entry (item.Land land) ∷ full_name (item.Land land) ∷ an_entry (item.Party party) ∷ full_name (item.Party party) ∷ map (list_seats_cell land party) books
 
 abbrev pub list_seats_rows : Election → List Judged → (land : ℕ) → List (List Content)
 list_seats_rows e books land = map (list_seats_row books land) (filter (has_seats e books land) (parties e))
@@ -153,7 +161,7 @@ list_seats_table e books = record {
 
 -- the word of the book, the party, its seats, and their difference from those by the first book
 abbrev pub seats_row : Election → (first j : Judged) → Option ℕ → List Content
-seats_row e first j party = a_text ∷ compared_name party ++ known (option_map (seats_in e party) j.counted) ∷ change_cell e party first.counted j.counted ∷ []
+seats_row e first j party = a_text (string_bytes j.word) ∷ compared_name party ++ known (option_map (seats_in e party) j.counted) ∷ change_cell e party first.counted j.counted ∷ []
 
 abbrev pub seats_rows : Election → List Judged → List (List Content)
 seats_rows e [] = []

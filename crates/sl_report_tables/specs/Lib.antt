@@ -10,6 +10,7 @@ pub mod Totals
 pub mod Words
 pub mod Compare
 pub mod Names
+pub mod Naming
 pub mod Earlier
 pub mod Press
 pub mod Reports

@@ -1,19 +1,21 @@
 -- The tables of the law, of the parties and their lists, and of winners (docs/report.md).
-use Rattle.std.specs.List.{position, zip}
-use Rattle.std.specs.Prelude.{◌≡◌, ℕ, Bool, true, false, ◌&&◌, ◌||◌, List, [], ◌∷◌, ◌++◌, Option, Some, None, codes, filter, map, nat_lt, option_map, unwrap_or}
-use Rattle.sl_report_forms.specs.Cells.{Content, a_flag, a_number, a_text, nothing}
+use Rattle.std.specs.List.{enumerate_from, position, zip}
+use Rattle.std.specs.Prelude.{◌≡◌, ℕ, Bool, true, false, ◌&&◌, ◌||◌, List, [], ◌∷◌, Option, codes, filter, map, nat_lt, option_map, unwrap_or}
+use Rattle.sl_report_forms.specs.Cells.{Content, a_flag, a_number, a_text, an_entry, known}
 use Rattle.sl_report_forms.specs.Tables.{Table}
 use Rattle.sl_report_parties.specs.Parts.{votes_of}
 use Rattle.sl_report_parties.specs.Ranks.{AreContested}
 use Rattle.sl_report_parties.specs.Seats.{all_seats, is_open, is_single, party_seats}
 use Rattle.sl_report_parties.specs.declared.contests.Ranked.{Ranked}
 use Rattle.sl_report_parties.specs.declared.seats.Seats.{Seats}
-use Rattle.sl_report_tables.specs.Parts.{a_name, condition_cell, percent_cells}
+use Rattle.sl_report_tables.specs.Naming.{text_of}
+use Rattle.sl_report_tables.specs.Parts.{condition_cell, full_name, party_cell, party_name_cell, percent_cell, percent_exact_cell}
 use Rattle.sl_law_meaning.specs.declared.book.Book.{Book}
 use Rattle.sl_law_meaning.specs.declared.book.Cond.{Cond}
 use Rattle.sl_law_meaning.specs.declared.book.Seating.TheVariants as seating
 use Rattle.sl_law_meaning.specs.declared.book.Seating.{Seating}
 use Rattle.sl_law_meaning.specs.declared.election.Win.{Win}
+use Rattle.sl_law_meaning.specs.declared.fault.Item.TheVariants as item
 use Rattle.sl_law_meaning.specs.declared.table.ListSeats.{ListSeats}
 use Rattle.sl_law_meaning.specs.declared.table.Placed.TheVariants as placed
 use Rattle.sl_law_meaning.specs.declared.table.Placed.{Placed}
@@ -24,8 +26,7 @@ use Rattle.sl_law_meaning.specs.returns.Votes.{counted_in, valid_in}
 
 -- seats, where a table is known
 abbrev pub seat_cells : Option Seats → List Content
-seat_cells None = nothing ∷ nothing ∷ nothing ∷ []
-seat_cells (Some s) = a_number s.seats ∷ a_number s.direct ∷ a_number s.vacant ∷ []
+seat_cells s = known (option_map (λ s. s.seats) s) ∷ known (option_map (λ s. s.direct) s) ∷ known (option_map (λ s. s.vacant) s) ∷ []
 
 -- ---- the law
 
@@ -33,20 +34,20 @@ seat_cells (Some s) = a_number s.seats ∷ a_number s.direct ∷ a_number s.vaca
 abbrev pub house_of : Book → Election → ℕ
 house_of b e = unwrap_or e.house b.house.value
 
-abbrev pub law_table : ℕ → Option SeatTable → Table
-law_table house t = record {
+abbrev pub law_table : Book → (house : ℕ) → Option SeatTable → Table
+law_table b house t = record {
   key = codes "law";
   columns = codes "law" ∷ codes "house" ∷ codes "seats" ∷ codes "direct" ∷ codes "vacant" ∷ [];
-  rows = (a_text ∷ a_number house ∷ seat_cells (option_map all_seats t)) ∷ [];
+  rows = (a_text (text_of b.law.items) ∷ a_number house ∷ seat_cells (option_map all_seats t)) ∷ [];
 }
 
 -- ---- parties
 
 abbrev pub party_row : List Cond → Election → Option SeatTable → ℕ → List Content
 party_row conditions e t party =
-    a_name
-    ++ a_number (votes_of e party).valid ∷ percent_cells (votes_of e party).valid (all_valid_votes e)
-    ++ a_number (votes_of e party).counted ∷ condition_cell conditions (position (meets e party) conditions)
+    an_entry (item.Party party) ∷ full_name (item.Party party)
+    ∷ a_number (votes_of e party).valid ∷ percent_cell (votes_of e party).valid (all_valid_votes e) ∷ percent_exact_cell (votes_of e party).valid (all_valid_votes e)
+    ∷ a_number (votes_of e party).counted ∷ condition_cell conditions (position (meets e party) conditions)
     ∷ seat_cells (option_map (λ t. party_seats t e party) t)
 
 abbrev pub parties_table : List Cond → Election → Option SeatTable → Table
@@ -61,8 +62,8 @@ parties_table conditions e t = record {
 
 abbrev pub list_row : Election → ListSeats → List Content
 list_row e l =
-    a_name ++ a_name
-    ++ a_number (valid_in (list_at e l.land l.party)) ∷ a_number (counted_in (list_at e l.land l.party))
+    an_entry (item.Land l.land) ∷ full_name (item.Land l.land) ∷ an_entry (item.Party l.party) ∷ full_name (item.Party l.party)
+    ∷ a_number (valid_in (list_at e l.land l.party)) ∷ a_number (counted_in (list_at e l.land l.party))
     ∷ a_number l.seats ∷ a_number l.direct ∷ a_number l.vacant ∷ []
 
 -- a list of the election: any of them, or one that has votes or seats
@@ -80,14 +81,11 @@ lists_table any e t = record {
 
 -- ---- winners
 
--- the names of the party, or a word where there is none
-abbrev pub party_cells : Option ℕ → List Content
-party_cells None = nothing ∷ a_text ∷ []
-party_cells (Some party) = a_name
-
--- the constituency, the Land, and the party
-abbrev pub winner_row : Win → List Content
-winner_row w = a_name ++ a_name ++ party_cells w.party
+-- the constituency of a winner by his number, the Land, and the party if he has one
+abbrev pub winner_row : ℕ × Win → List Content
+winner_row w =
+    an_entry (item.Win w.0) ∷ full_name (item.Win w.0) ∷ an_entry (item.Land w.1.land) ∷ full_name (item.Land w.1.land)
+    ∷ party_cell w.1.party ∷ party_name_cell w.1.party (codes "-") (codes "-") ∷ []
 
 abbrev pub is_on_list : Placed → Bool
 is_on_list placed.OnList = true
@@ -104,7 +102,7 @@ abbrev pub placed_table : List ℕ → (Placed → Bool) → Election → SeatTa
 placed_table name has e t = record {
   key = name;
   columns = codes "constituency" ∷ codes "constituency_name" ∷ codes "land" ∷ codes "land_name" ∷ codes "party" ∷ codes "party_name" ∷ [];
-  rows = map (λ x. winner_row x.0) (filter (λ x. has x.1) (zip e.wins t.placed));
+  rows = map (λ x. winner_row x.0) (filter (λ x. has x.1) (zip (enumerate_from 0 e.wins) t.placed));
 }
 
 abbrev pub singles_table : Election → SeatTable → Table
@@ -122,9 +120,10 @@ AreCovered seating.Keep conditions t e ws = ws ≡ []
 
 abbrev pub ranked_row : Ranked → List Content
 ranked_row w =
-    a_name ++ a_name ++ a_name
-    ++ a_number w.first ∷ a_number w.valid ∷ percent_cells w.first w.valid
-    ++ a_number w.rank ∷ a_flag w.seated ∷ []
+    an_entry (item.Land w.land) ∷ full_name (item.Land w.land) ∷ an_entry (item.Party w.party) ∷ full_name (item.Party w.party)
+    ∷ an_entry (item.Win w.win) ∷ full_name (item.Win w.win)
+    ∷ a_number w.first ∷ a_number w.valid ∷ percent_cell w.first w.valid ∷ percent_exact_cell w.first w.valid
+    ∷ a_number w.rank ∷ a_flag w.seated ∷ []
 
 abbrev pub covering_table : List Ranked → Table
 covering_table ws = record {

@@ -1,76 +1,67 @@
--- What stands in the cells of the parts of which rows are made (docs/report.md).
-use Rattle.std.specs.Prelude.{ℕ, Bool, List, [], ◌∷◌, Option, Some, None, is_some, option_and_then, option_map, slice_get, unwrap_or, if◌then◌else◌}
-use Rattle.sl_report_forms.specs.Cells.{Content, a_change, a_decimal, a_flag, a_fraction, a_number, a_text, known, known_decimal, nothing}
+-- What stands in cells that several tables have (docs/report.md).
+use Rattle.std.specs.Prelude.{ℕ, List, Option, Some, None, is_some, option_and_then, option_map, slice_get, unwrap_or, if◌then◌else◌}
+use Rattle.sl_report_forms.specs.Cells.{Content, a_condition, a_fraction, a_name, a_word, an_entry, known_decimal, nothing}
 use Rattle.sl_report_results.specs.Fractions.{decimal_of, percent, percent_half_up}
 use Rattle.sl_report_results.specs.declared.fraction.Fraction.{Fraction}
 use Rattle.sl_report_tables.specs.Lowest.{lowest_of}
-use Rattle.sl_report_tables.specs.declared.rows.Part.TheVariants as part
-use Rattle.sl_report_tables.specs.declared.rows.Part.{Part}
 use Rattle.sl_law_meaning.specs.declared.book.Cond.{Cond}
 use Rattle.sl_law_meaning.specs.declared.fault.Item.TheVariants as item
 use Rattle.sl_law_meaning.specs.declared.fault.Item.{Item}
+use Rattle.sl_law_meaning.specs.declared.fault.Scope.TheVariants as scope
 
--- a short name, and the one that a reader sees
-abbrev pub a_name : List Content
-a_name = a_text ∷ a_text ∷ []
+-- the name of an entry that a reader sees
+abbrev pub full_name : Item → Content
+full_name entry = a_name entry scope.All
 
-abbrev pub two_empty : List Content
-two_empty = nothing ∷ nothing ∷ []
+-- the short name of a party, if there is one
+abbrev pub party_cell : Option ℕ → Content
+party_cell None = nothing
+party_cell (Some party) = an_entry (item.Party party)
+
+-- the name of a party that a reader sees, or a word in its place
+abbrev pub party_name_cell : Option ℕ → (english german : List ℕ) → Content
+party_name_cell None english german = a_word english german
+party_name_cell (Some party) english german = full_name (item.Party party)
 
 -- a fraction in lowest terms
 abbrev pub exact_cell : Fraction → Content
 exact_cell f = a_fraction (lowest_of f).num (lowest_of f).den
 
--- so many of so many in percent: in three places and exact, where there are decimals
-abbrev pub percent_cells : ℕ → ℕ → List Content
-percent_cells of_them all =
-    let f = percent of_them all in unwrap_or (option_map (λ cut. a_decimal cut ∷ exact_cell f ∷ []) (decimal_of f 3)) two_empty
+-- so many of so many in percent, in three places, where there are decimals
+abbrev pub percent_cell : ℕ → ℕ → Content
+percent_cell of_them all = known_decimal (decimal_of (percent of_them all) 3)
+
+-- and exact
+abbrev pub percent_exact_cell : ℕ → ℕ → Content
+percent_exact_cell of_them all = if is_some (decimal_of (percent of_them all) 3) then exact_cell (percent of_them all) else nothing
 
 -- so many of so many in percent, rounded to one place
 abbrev pub rounded_cell : ℕ → ℕ → Content
 rounded_cell of_them all = known_decimal (decimal_of (percent_half_up of_them all) 1)
 
--- a fraction, where there is one: in four places, where there are decimals, and exact
-abbrev pub fraction_cells : Option Fraction → List Content
-fraction_cells None = two_empty
-fraction_cells (Some f) = known_decimal (decimal_of f 4) ∷ exact_cell f ∷ []
+-- a fraction, where there is one, in four places, where there are decimals
+abbrev pub fraction_cell : Option Fraction → Content
+fraction_cell f = known_decimal (option_and_then (λ f. decimal_of f 4) f)
+
+-- and exact
+abbrev pub fraction_exact_cell : Option Fraction → Content
+fraction_exact_cell None = nothing
+fraction_exact_cell (Some f) = exact_cell f
 
 -- the condition of that number, where there is one
 abbrev pub condition_cell : List Cond → Option ℕ → Content
-condition_cell conditions met = if is_some (option_and_then (slice_get conditions) met) then a_text else nothing
+condition_cell conditions met = unwrap_or (option_map a_condition (option_and_then (slice_get conditions) met)) nothing
 
--- the Land and the party of an entry, each where it has one; a winner has neither
-abbrev pub sides_of : Item → List Content
-sides_of (item.Party party) = nothing ∷ a_text ∷ []
-sides_of (item.Land land) = a_text ∷ nothing ∷ []
-sides_of (item.List land party) = a_name
-sides_of (item.Win win) = two_empty
+-- the Land of an entry, if it has one; a winner has none here
+abbrev pub land_side : Item → Content
+land_side (item.Party party) = nothing
+land_side (item.Land land) = an_entry (item.Land land)
+land_side (item.List land party) = an_entry (item.Land land)
+land_side (item.Win win) = nothing
 
--- a flag, where it is known
-abbrev pub known_flag : Option Bool → Content
-known_flag None = nothing
-known_flag (Some is) = a_flag is
-
-abbrev pub cells_of : Part → List Content
-cells_of part.Empty = nothing ∷ []
-cells_of (part.Text words) = a_text ∷ []
-cells_of (part.Word words) = a_text ∷ []
-cells_of (part.InPlace words) = nothing ∷ a_text ∷ []
-cells_of (part.Number n) = a_number n ∷ []
-cells_of (part.Known n) = known n ∷ []
-cells_of (part.Change n before) = a_change n before ∷ []
-cells_of (part.Flag is) = a_flag is ∷ []
-cells_of (part.KnownFlag flag) = known_flag flag ∷ []
-cells_of (part.Name name) = a_name
-cells_of (part.Land land) = a_name
-cells_of (part.Party party) = a_name
-cells_of (part.Win win) = a_name
-cells_of (part.Entry item scope) = a_name
-cells_of (part.Sides item) = sides_of item
-cells_of (part.Entries items) = a_text ∷ []
-cells_of (part.Scope scope) = a_text ∷ []
-cells_of (part.LongScope scope) = a_text ∷ []
-cells_of (part.Met conditions met) = condition_cell conditions.now met ∷ []
-cells_of (part.Percent of_them all) = percent_cells of_them all
-cells_of (part.Rounded of_them all) = rounded_cell of_them all ∷ []
-cells_of (part.Fraction fraction) = fraction_cells fraction
+-- its party, if it has one
+abbrev pub party_side : Item → Content
+party_side (item.Party party) = an_entry (item.Party party)
+party_side (item.Land land) = nothing
+party_side (item.List land party) = an_entry (item.Party party)
+party_side (item.Win win) = nothing

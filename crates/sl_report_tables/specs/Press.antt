@@ -1,7 +1,7 @@
 -- The tables of a press report (docs/report.md).
 use Rattle.std.specs.List.{AllZip}
 use Rattle.std.specs.Prelude.{◌≡◌, ℕ, Bool, true, false, List, [], ◌∷◌, ◌++◌, Option, None, Some, codes, filter, length, map, option_map, take}
-use Rattle.sl_report_forms.specs.Cells.{Content, a_change, a_number, a_text, known, nothing}
+use Rattle.sl_report_forms.specs.Cells.{Content, a_change, a_number, a_text, a_word, an_entry, known, nothing, prose}
 use Rattle.sl_report_forms.specs.Tables.{Table}
 use Rattle.sl_report_parties.specs.Earlier.{all_before, is_gone}
 use Rattle.sl_report_parties.specs.Lacking.{AreVotesFor, AreWinnersFor, Lacks}
@@ -11,8 +11,9 @@ use Rattle.sl_report_parties.specs.declared.earlier.EarlierParty.{EarlierParty}
 use Rattle.sl_report_parties.specs.declared.press.Pressed.{Pressed}
 use Rattle.sl_report_parties.specs.declared.press.Standing.{Standing}
 use Rattle.sl_report_results.specs.declared.scopes.Scoped.{Scoped}
-use Rattle.sl_report_tables.specs.Parts.{a_name, rounded_cell}
+use Rattle.sl_report_tables.specs.Parts.{full_name, rounded_cell}
 use Rattle.sl_law_meaning.specs.declared.book.Cond.{Cond}
+use Rattle.sl_law_meaning.specs.declared.fault.Item.TheVariants as item
 use Rattle.sl_law_meaning.specs.declared.fault.Scope.TheVariants as scope
 use Rattle.sl_law_meaning.specs.declared.fault.Scope.{Scope}
 use Rattle.sl_law_meaning.specs.meaning.Tables.{SeatTable}
@@ -21,21 +22,22 @@ use Rattle.sl_law_meaning.specs.returns.Facts.{all_valid_votes}
 
 -- ---- the parties in the order of their seats, and all together
 
--- the seats before, and by how many there are more or fewer, where an earlier table is given
-abbrev pub before_cells : (seats : ℕ) → Option ℕ → List Content
-before_cells seats None = nothing ∷ nothing ∷ []
-before_cells seats (Some before) = a_number before ∷ a_change seats before ∷ []
+-- by how many seats there are more or fewer than before, where an earlier table is given
+abbrev pub change_since : (seats : ℕ) → Option ℕ → Content
+change_since seats None = nothing
+change_since seats (Some before) = a_change seats before
 
-abbrev pub press_row : Election → Pressed → List Content
-press_row e p =
-    a_name
-    ++ (a_number p.seats.seats ∷ before_cells p.seats.seats p.before)
-    ++ a_number p.part.winners ∷ a_number p.seats.direct ∷ a_number p.part.votes.valid
-    ∷ rounded_cell p.part.votes.valid (all_valid_votes e) ∷ []
+-- a party, of so many valid votes in all
+abbrev pub press_row : (valid : ℕ) → Pressed → List Content
+press_row valid p =
+    an_entry (item.Party p.party) ∷ full_name (item.Party p.party)
+    ∷ a_number p.seats.seats ∷ known p.before ∷ change_since p.seats.seats p.before
+    ∷ a_number p.part.winners ∷ a_number p.seats.direct ∷ a_number p.part.votes.valid
+    ∷ rounded_cell p.part.votes.valid valid ∷ []
 
--- a party that had seats, and that the returns do not have
+-- a party that had seats, and that the returns do not have, by its name and a full one
 abbrev pub gone_row : EarlierParty → List Content
-gone_row p = a_name ++ (a_number 0 ∷ before_cells 0 (Some p.seats)) ++ nothing ∷ nothing ∷ nothing ∷ nothing ∷ []
+gone_row p = a_text p.name.now ∷ prose ∷ a_number 0 ∷ a_number p.seats ∷ a_change 0 p.seats ∷ nothing ∷ nothing ∷ nothing ∷ nothing ∷ []
 
 abbrev pub gone_rows : Election → Option (List EarlierParty) → List (List Content)
 gone_rows e None = []
@@ -44,16 +46,16 @@ gone_rows e (Some earlier) = map gone_row (filter (is_gone e) earlier)
 -- the seats of all, now and before, the constituencies with a winner, the winners who are seated, and all valid votes
 abbrev pub sum_row : Election → SeatTable → Option (List EarlierParty) → List Content
 sum_row e t earlier =
-    nothing ∷ a_text
-    ∷ (a_number (all_seats t).seats ∷ before_cells (all_seats t).seats (option_map all_before earlier))
-    ++ a_number (length e.wins) ∷ a_number (all_seats t).direct ∷ a_number (all_valid_votes e)
+    nothing ∷ a_word (codes "all") (codes "alle")
+    ∷ a_number (all_seats t).seats ∷ known (option_map all_before earlier) ∷ change_since (all_seats t).seats (option_map all_before earlier)
+    ∷ a_number (length e.wins) ∷ a_number (all_seats t).direct ∷ a_number (all_valid_votes e)
     ∷ rounded_cell (all_valid_votes e) (all_valid_votes e) ∷ []
 
 abbrev pub press_table : Election → SeatTable → Option (List EarlierParty) → List Pressed → Table
 press_table e t earlier pressed = record {
   key = codes "press";
   columns = codes "party" ∷ codes "party_name" ∷ codes "seats" ∷ codes "before" ∷ codes "change" ∷ codes "won" ∷ codes "direct" ∷ codes "valid" ∷ codes "percent" ∷ [];
-  rows = map (press_row e) pressed ++ (gone_rows e earlier ++ sum_row e t earlier ∷ []);
+  rows = map (press_row (all_valid_votes e)) pressed ++ (gone_rows e earlier ++ sum_row e t earlier ∷ []);
 }
 
 -- ---- who won the last seats of the country, and who has the next claims
@@ -73,7 +75,7 @@ is_whole s = is_all s.scope
 -- its votes, and what it lacks for the nearest condition on votes and on winners
 abbrev pub lacking_row : Election → Standing → (votes winners : Option ℕ) → List Content
 lacking_row e s votes winners =
-    a_name ++ a_number s.part.votes.valid ∷ rounded_cell s.part.votes.valid (all_valid_votes e) ∷ known votes ∷ known winners ∷ []
+    an_entry (item.Party s.party) ∷ full_name (item.Party s.party) ∷ a_number s.part.votes.valid ∷ rounded_cell s.part.votes.valid (all_valid_votes e) ∷ known votes ∷ known winners ∷ []
 
 pub record IsLackingRow (conditions : List Cond) (e : Election) (s : Standing) (row : List Content) : Type 0 where
   pub votes : Option ℕ

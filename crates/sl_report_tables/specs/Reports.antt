@@ -15,7 +15,7 @@ use Rattle.sl_report_tables.specs.Faults.{AreFaultTables}
 use Rattle.sl_report_tables.specs.Parties.{AreCovered, covering_table, house_of, law_table, lists_table, open_table, parties_table, singles_table}
 use Rattle.sl_report_tables.specs.Press.{IsLackingTable, is_whole, press_table}
 use Rattle.sl_report_tables.specs.Scopes.{scope_tables, scopes_table}
-use Rattle.sl_report_tables.specs.Stages.{stage_tables}
+use Rattle.sl_report_tables.specs.Stages.{AreStageTables}
 use Rattle.sl_report_tables.specs.Steps.{bounds_table, steps_table}
 use Rattle.sl_report_tables.specs.declared.counts.Show.TheVariants as show
 use Rattle.sl_report_tables.specs.declared.counts.Show.{Show}
@@ -53,7 +53,7 @@ module _ (b : Book) (e : Election) where
 
   -- the law and the parties, with their seats where a table is known
   abbrev pub first_tables : Option SeatTable → List Table
-  first_tables t = law_table (house_of b e) t ∷ parties_table b.eligible.items e t ∷ []
+  first_tables t = law_table b (house_of b e) t ∷ parties_table b.eligible.items e t ∷ []
 
   -- a seat table: the law, the parties, all lists, and the winners on no list
   abbrev pub seat_tables : SeatTable → List Table
@@ -81,7 +81,7 @@ module _ (b : Book) (e : Election) where
     pub all : AreAllScopes c scopes
     pub lacking : Table
     pub lacks : IsLackingTable b.eligible.items e lacking
-    pub tables_are : tables ≡ law_table (house_of b e) (Some c.table) ∷ press_table e c.table earlier pressed ∷ scopes_table (filter is_whole scopes) ∷ lacking ∷ []
+    pub tables_are : tables ≡ law_table b (house_of b e) (Some c.table) ∷ press_table e c.table earlier pressed ∷ scopes_table (filter is_whole scopes) ∷ lacking ∷ []
 
   -- ---- a legal fault
 
@@ -96,7 +96,7 @@ module _ (b : Book) (e : Election) where
   Shows show.Steps (end.Counted c) tables = ShowsSteps c.table tables
   Shows show.Report (end.Counted c) tables = IsCountReport c tables
   Shows (show.Short earlier) (end.Counted c) tables = IsPressReport (option_map (λ all. all.now) earlier) c tables
-  Shows show.Stages (end.Counted c) tables = tables ≡ stage_tables e c.columns.items
+  Shows show.Stages (end.Counted c) tables = AreStageTables e c.columns.items tables
   Shows shown (end.Fault f) tables = IsFaultReport f tables
 
 -- what shows the same beside an earlier seat table, where a page for the press does

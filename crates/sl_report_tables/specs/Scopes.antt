@@ -1,17 +1,24 @@
 -- The tables of scopes, and of the entries of each (docs/report.md).
-use Rattle.std.specs.Prelude.{ℕ, Bool, ◌==◌, List, [], ◌∷◌, ◌++◌, Option, Some, None, codes, is_some, map, if◌then◌else◌}
+use Rattle.std.specs.Prelude.{ℕ, ◌==◌, List, [], ◌∷◌, Option, Some, None, codes, filter_map, is_some, map, option_map, slice_get, if◌then◌else◌}
 use Rattle.sl_base_quotients.specs.Quotient.{Quotient}
-use Rattle.sl_report_forms.specs.Cells.{Content, a_decimal, a_flag, a_fraction, a_number, a_text, known, known_decimal, nothing}
+use Rattle.sl_report_forms.specs.Cells.{Content, a_decimal, a_flag, a_fraction, a_name, a_number, a_scope, a_scope_name, a_stage, a_word, an_entry, claimants, known, known_decimal, known_flag, nothing}
 use Rattle.sl_report_forms.specs.Tables.{Table}
 use Rattle.sl_report_results.specs.declared.scopes.Entry.{Entry}
 use Rattle.sl_report_results.specs.declared.scopes.Scoped.{Scoped}
 use Rattle.sl_report_tables.specs.Lowest.{lowest_of}
-use Rattle.sl_report_tables.specs.Parts.{a_name, fraction_cells, known_flag, sides_of}
+use Rattle.sl_report_tables.specs.Parts.{fraction_cell, fraction_exact_cell, land_side, party_side}
+use Rattle.sl_law_meaning.specs.declared.fault.Item.{Item}
+use Rattle.sl_lex.specs.Keywords.{spelling}
+use Rattle.sl_parse.specs.Words.{method_word}
 
--- the names of some entries in one cell, where there are some
-abbrev pub names_cell : List ℕ → Content
-names_cell [] = nothing
-names_cell (number ∷ numbers) = a_text
+-- the entries of these numbers
+abbrev pub entries_at : Scoped → List ℕ → List Item
+entries_at s numbers = filter_map (λ number. option_map (λ x. x.item) (slice_get s.entries.items number)) numbers
+
+-- their names in one cell, where there are numbers
+abbrev pub claimants_cell : Scoped → List ℕ → Content
+claimants_cell s [] = nothing
+claimants_cell s (number ∷ numbers) = claimants (entries_at s (number ∷ numbers)) s.scope
 
 -- the divisor on a border of equal claims, where there is one: a whole number, or a fraction
 abbrev pub border_cell : Option Quotient → Content
@@ -26,13 +33,13 @@ divisor_cell s = if is_some s.divisor then known_decimal s.divisor else border_c
 -- the divisor and the quota, who won the last seat and has the next claim, and whether a lot decided
 abbrev pub margin_cells : Scoped → List Content
 margin_cells s =
-    divisor_cell s ∷ fraction_cells s.quota
-    ++ names_cell s.last.items ∷ names_cell s.next.items ∷ known_flag s.drawn ∷ []
+    divisor_cell s ∷ fraction_cell s.quota ∷ fraction_exact_cell s.quota
+    ∷ claimants_cell s s.last.items ∷ claimants_cell s s.next.items ∷ known_flag s.drawn ∷ []
 
 -- the stage, the scope by its short name and as a reader sees it, the method, and the numbers
 abbrev pub scope_row : Scoped → List Content
 scope_row s =
-    a_text ∷ a_text ∷ a_text ∷ a_text
+    a_stage s.stage ∷ a_scope s.scope ∷ a_scope_name s.scope ∷ a_word (spelling (method_word s.method)) (spelling (method_word s.method))
     ∷ a_flag s.grows ∷ a_flag s.has_minima ∷ a_number s.weight ∷ a_number s.seats ∷ margin_cells s
 
 abbrev pub scopes_table : List Scoped → Table
@@ -44,18 +51,18 @@ scopes_table scopes = record {
 }
 
 -- the stage, the scope, the names of the entry, its Land and its party, and the numbers
-abbrev pub entry_row : Bool → Entry → List Content
-entry_row has_minima x =
-    a_text ∷ a_text ∷ a_name ++ sides_of x.item
-    ++ a_number x.weight ∷ fraction_cells x.quotient
-    ++ a_number x.seats ∷ (if has_minima then a_number x.minimum else nothing) ∷ known x.missing ∷ known_flag x.lot ∷ known x.place ∷ []
+abbrev pub entry_row : Scoped → Entry → List Content
+entry_row s x =
+    a_stage s.stage ∷ a_scope s.scope ∷ an_entry x.item ∷ a_name x.item s.scope ∷ land_side x.item ∷ party_side x.item
+    ∷ a_number x.weight ∷ fraction_cell x.quotient ∷ fraction_exact_cell x.quotient
+    ∷ a_number x.seats ∷ (if s.has_minima then a_number x.minimum else nothing) ∷ known x.missing ∷ known_flag x.lot ∷ known x.place ∷ []
 
 abbrev pub entries_table : Scoped → Table
 entries_table s = record {
   key = codes "entries";
   columns = codes "stage" ∷ codes "scope" ∷ codes "entry" ∷ codes "entry_name" ∷ codes "land" ∷ codes "party" ∷ codes "votes" ∷ codes "quotient" ∷ codes "quotient_exact"
       ∷ codes "seats" ∷ codes "minimum" ∷ codes "missing" ∷ codes "lot" ∷ codes "place" ∷ [];
-  rows = map (entry_row s.has_minima) s.entries.items;
+  rows = map (entry_row s) s.entries.items;
 }
 
 -- a line for each scope, and then the entries of each

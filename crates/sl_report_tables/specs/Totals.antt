@@ -1,19 +1,21 @@
 -- The tables of the totals of returns (docs/report.md).
 use Rattle.std.specs.List.{AllZip}
-use Rattle.std.specs.Prelude.{◌≡◌, ℕ, List, [], ◌∷◌, ◌++◌, Option, None, Some, codes, count_by, filter, flat_map, length, map, nat_lt, option_map, slice_index, sum_by}
-use Rattle.sl_report_forms.specs.Cells.{Content, a_number, a_text, known}
+use Rattle.std.specs.Prelude.{◌≡◌, ℕ, List, [], ◌∷◌, Option, None, Some, codes, count_by, filter, flat_map, length, map, nat_lt, option_map, slice_index, sum_by}
+use Rattle.sl_report_forms.specs.Cells.{Content, a_number, a_word, an_entry, known, prose}
 use Rattle.sl_report_forms.specs.Tables.{Table}
 use Rattle.sl_report_parties.specs.Cells.{is_won}
 use Rattle.sl_report_parties.specs.Lacking.{AreVotesFor, AreWinnersFor, Lacks}
 use Rattle.sl_report_parties.specs.Parts.{part_of}
 use Rattle.sl_report_parties.specs.Sums.{capped, is_alone_in, is_with, land_sum, lists_of, sum_in_all}
 use Rattle.sl_report_parties.specs.declared.parts.PartyPart.{PartyPart}
-use Rattle.sl_report_tables.specs.Parts.{a_name, condition_cell, percent_cells}
+use Rattle.sl_report_tables.specs.Parts.{condition_cell, full_name, percent_cell, percent_exact_cell}
+use Rattle.sl_report_warnings.specs.Heads.{key_of}
 use Rattle.sl_report_warnings.specs.Warnings.{warnings_of}
 use Rattle.sl_report_warnings.specs.declared.warning.Warning.{Warning}
 use Rattle.sl_law_meaning.specs.book.Books.{book_of}
 use Rattle.sl_law_meaning.specs.declared.book.Book.{Book}
 use Rattle.sl_law_meaning.specs.declared.book.Cond.{Cond}
+use Rattle.sl_law_meaning.specs.declared.fault.Item.TheVariants as item
 use Rattle.sl_law_meaning.specs.returns.Election.{Election, lands_of, parties_of}
 use Rattle.sl_law_meaning.specs.returns.Facts.{all_valid_votes, is_in, lands, parties}
 use Rattle.sl_law_meaning.specs.returns.Votes.{counted_in, valid_in}
@@ -34,9 +36,9 @@ totals_table e = record {
 -- a party, by what it has, with the votes and the winners that it lacks
 abbrev pub votes_row : List Cond → Election → ℕ → PartyPart → Option ℕ → Option ℕ → List Content
 votes_row conditions e party has votes winners =
-    a_name
-    ++ a_number has.votes.valid ∷ percent_cells has.votes.valid (all_valid_votes e)
-    ++ a_number has.votes.counted ∷ a_number (lists_of e party) ∷ a_number has.winners
+    an_entry (item.Party party) ∷ full_name (item.Party party)
+    ∷ a_number has.votes.valid ∷ percent_cell has.votes.valid (all_valid_votes e) ∷ percent_exact_cell has.votes.valid (all_valid_votes e)
+    ∷ a_number has.votes.counted ∷ a_number (lists_of e party) ∷ a_number has.winners
     ∷ condition_cell conditions has.met ∷ known votes ∷ known winners ∷ []
 
 -- the row has what the party has, and what it lacks for the nearest condition on votes and on winners
@@ -57,8 +59,8 @@ pub record IsVotesTable (conditions : List Cond) (e : Election) (t : Table) : Ty
 
 abbrev pub land_row : Election → ℕ → List Content
 land_row e land =
-    a_name
-    ++ a_number (slice_index e.populations land) ∷ a_number (land_sum valid_in e land) ∷ a_number (land_sum counted_in e land)
+    an_entry (item.Land land) ∷ full_name (item.Land land)
+    ∷ a_number (slice_index e.populations land) ∷ a_number (land_sum valid_in e land) ∷ a_number (land_sum counted_in e land)
     ∷ a_number (count_by (is_in land) e.wins) ∷ a_number (count_by (is_alone_in land) e.wins) ∷ []
 
 abbrev pub lands_table : Election → Table
@@ -74,7 +76,8 @@ abbrev pub won_at : Election → ℕ → ℕ → ℕ
 won_at e land party = count_by (is_won land party) e.wins
 
 abbrev pub won_row : Election → ℕ → ℕ → List Content
-won_row e land party = a_name ++ a_name ++ a_number (won_at e land party) ∷ []
+won_row e land party =
+    an_entry (item.Land land) ∷ full_name (item.Land land) ∷ an_entry (item.Party party) ∷ full_name (item.Party party) ∷ a_number (won_at e land party) ∷ []
 
 -- the parties that have winners in a Land
 abbrev pub won_rows : Election → ℕ → List (List Content)
@@ -89,9 +92,9 @@ winners_table e = record {
 
 -- ---- warnings
 
--- its kind, and its sentence
+-- its kind, and its sentence, of which no definition tells the words
 abbrev pub warning_row : Warning → List Content
-warning_row w = a_text ∷ a_text ∷ []
+warning_row w = a_word (key_of w) (key_of w) ∷ prose ∷ []
 
 abbrev pub warnings_table : List Warning → Table
 warnings_table warnings = record {

@@ -1,17 +1,19 @@
 //! What a command that reports answers: sheets with a status, and their text in one of the forms.
 
-ghost use Rattle.std.specs.Prelude.{◌≡◌, [], ℕ, IfOk, List, option_map};
+ghost use Rattle.std.specs.Prelude.{◌≡◌, [], ℕ, IfOk, List, map, option_map};
 ghost use Rattle.sl_count_inputs.specs.Statuses.{status_number};
 ghost use Rattle.sl_report_forms.specs.HtmlForm.{html_page};
 ghost use Rattle.sl_report_forms.specs.JsonForm.{IsJsonText};
 ghost use Rattle.sl_report_forms.specs.MarkdownForm.{markdown_of};
+ghost use Rattle.sl_report_forms.specs.Shown.{view_in};
 ghost use Rattle.sl_report_forms.specs.TextForm.{aligned_of};
-ghost use Rattle.sl_report_tables.specs.Answers.{IsAnswerText, IsRefusal, IsRefusedBy, IsToldLine, OfLine, below_line};
+ghost use Rattle.sl_report_tables.specs.Answers.{IsAnswerText, IsRefusal, IsRefusedBy, IsToldLine, OfLine, below_line, views_in};
 
 use sl_base_quotients::NoMemory;
 use sl_count_inputs::Status;
 use sl_report_forms::{
-    Heading, Shape, Sheet, aligned_text, comma_text, html_text, json_text, markdown_text,
+    Heading, Names, Shape, Sheet, Shown, aligned_text, comma_text, html_text, json_text,
+    markdown_text, shown_sheets,
 };
 use std::alloc::Global;
 
@@ -22,12 +24,13 @@ const NAMES_FORM: &str =
 // What an earlier seat table holds, as the line says that refuses one.
 const BEFORE_FORM: &str = "each line is one that `count` writes, such as `party CDU 208 172`";
 
-/// The sheets that a command shows, the status that stands for them, and the line of a refusal or of a legal fault, with its end; no bytes where
-/// there is neither. A refusal has no sheets.
+/// The sheets that a command shows, by these names, the status that stands for them, and the line of a refusal or of a legal fault, with its end; no
+/// bytes where there is neither. A refusal has no sheets.
 #[derive(Drop)]
 pub struct Answer {
     pub status: Status,
     pub line: Vec<u8>,
+    pub names: Names,
     pub sheets: Vec<Sheet>,
 }
 
@@ -41,14 +44,16 @@ fn without_end(line: &[u8]) -> Option<&str>
 
 impl Answer {
     // The answer of a command that has these sheets.
-    pub(crate) fn done(alloc: Global, sheets: Vec<Sheet>) -> Answer
+    pub(crate) fn done(alloc: Global, names: Names, sheets: Vec<Sheet>) -> Answer
         ensures status { result.status ≡ Status.Done }
         ensures line { result.line.items ≡ [] }
+        ensures names { result.names ≡ names }
         ensures sheets { result.sheets.items ≡ sheets.items }
     {
         Answer {
             status: Status::Done,
             line: Vec::new(alloc),
+            names,
             sheets,
         }
     }
@@ -60,6 +65,7 @@ impl Answer {
         Answer {
             status: Status::Refused,
             line,
+            names: Names::none(alloc),
             sheets: Vec::new(alloc),
         }
     }
@@ -96,11 +102,19 @@ impl Answer {
         Ok(Answer::refused(alloc, line.into_bytes()))
     }
 
+    // What is shown of its sheets.
+    fn shown(&self, alloc: Global) -> Result<Vec<Shown>, NoMemory>
+        ensures { IfOk result (λ v. map view_in v.items ≡ views_in self.now) }
+    {
+        shown_sheets(alloc, &self.names, self.sheets.as_slice())
+    }
+
     // The sheets as aligned text, after the line of a legal fault, if there is one, and an empty line.
     fn aligned(&self, alloc: Global) -> Result<Vec<u8>, NoMemory>
-        ensures { IfOk result (λ text. text.items ≡ below_line self.now.line.items (aligned_of self.now.sheets.items)) }
+        ensures { IfOk result (λ text. text.items ≡ below_line self.now.line.items (aligned_of (views_in self.now))) }
     {
-        let sheets = aligned_text(alloc, self.sheets.as_slice())?;
+        let shown = self.shown(alloc)?;
+        let sheets = aligned_text(alloc, shown.as_slice())?;
         if self.line.is_empty() {
             return Ok(sheets.into_bytes());
         }
@@ -111,25 +125,27 @@ impl Answer {
     }
 
     fn markdown(&self, alloc: Global) -> Result<Vec<u8>, NoMemory>
-        ensures { IfOk result (λ text. OfLine (λ line. text.items ≡ markdown_of line self.now.sheets.items) self.now) }
+        ensures { IfOk result (λ text. OfLine (λ line. text.items ≡ markdown_of line (views_in self.now)) self.now) }
     {
         let line = without_end(self.line.as_slice());
-        Ok(markdown_text(alloc, line, self.sheets.as_slice())?.into_bytes())
+        let shown = self.shown(alloc)?;
+        Ok(markdown_text(alloc, line, shown.as_slice())?.into_bytes())
     }
 
     fn html(&self, alloc: Global, heading: &Heading<'_>) -> Result<Vec<u8>, NoMemory>
-        ensures { IfOk result (λ text. OfLine (λ line. (title : List ℕ) × (text.items ≡ html_page heading.now.language title line self.now.sheets.items)) self.now) }
+        ensures { IfOk result (λ text. OfLine (λ line. (title : List ℕ) × (text.items ≡ html_page heading.now.language title line (views_in self.now))) self.now) }
     {
         let line = without_end(self.line.as_slice());
-        Ok(html_text(alloc, heading, line, self.sheets.as_slice())?.into_bytes())
+        let shown = self.shown(alloc)?;
+        Ok(html_text(alloc, heading, line, shown.as_slice())?.into_bytes())
     }
 
     fn json(&self, alloc: Global, heading: &Heading<'_>) -> Result<Vec<u8>, NoMemory>
-        ensures { IfOk result (λ text. OfLine (λ line. IsJsonText heading.now (status_number self.now.status) line self.now.sheets.items text.items) self.now) }
+        ensures { IfOk result (λ text. OfLine (λ line. IsJsonText heading.now (status_number self.now.status) line self.now.names self.now.sheets.items text.items) self.now) }
     {
         let line = without_end(self.line.as_slice());
-        let sheets = self.sheets.as_slice();
-        Ok(json_text(alloc, heading, self.status.number(), line, sheets)?.into_bytes())
+        let (status, sheets) = (self.status.number(), self.sheets.as_slice());
+        Ok(json_text(alloc, heading, status, line, &self.names, sheets)?.into_bytes())
     }
 
     /// Its text in a form. A refusal is its line alone, but in JSON. The command and the language of a heading stand in HTML, and what it says beside
@@ -147,7 +163,7 @@ impl Answer {
             (Shape::Text | Shape::Markdown | Shape::Html | Shape::Comma, Status::Refused) => Ok(
                 Vec::from_slice(alloc, self.line.as_slice())?,
             ),
-            (Shape::Comma, _) => comma_text(alloc, self.sheets.as_slice()),
+            (Shape::Comma, _) => comma_text(alloc, &self.names, self.sheets.as_slice()),
             (Shape::Text, _) => self.aligned(alloc),
             (Shape::Markdown, _) => self.markdown(alloc),
             (Shape::Html, _) => self.html(alloc, heading),

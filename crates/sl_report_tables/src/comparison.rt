@@ -7,7 +7,7 @@ ghost use Rattle.sl_report_tables.specs.Compare.{AreComparison};
 use crate::answer::Answer;
 use crate::compare::{Judged, compare_sheets};
 use crate::full_names::FullNames;
-use crate::naming::Naming;
+use crate::naming::names_of;
 use sl_base_quotients::NoMemory;
 use sl_explain_texts::Language;
 use sl_stages::Returns;
@@ -21,13 +21,9 @@ pub fn comparison_answer(
     full: &FullNames,
     language: Language,
 ) -> Result<Answer, NoMemory>
-    ensures { IfOk result (HasTables (AreComparison returns.now books.now)) }
+    ensures { IfOk result (HasTables returns.now (AreComparison returns.now books.now)) }
 {
-    let naming = Naming {
-        returns,
-        full,
-        language,
-    };
-    let sheets = compare_sheets(alloc, &naming, books)?;
-    Ok(Answer::done(alloc, sheets))
+    let names = names_of(alloc, None, returns, full, language)?;
+    let sheets = compare_sheets(alloc, &names, returns, books)?;
+    Ok(Answer::done(alloc, names, sheets))
 }

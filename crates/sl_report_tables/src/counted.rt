@@ -11,24 +11,24 @@ ghost use Rattle.sl_law_meaning.specs.book.Books.{book_of};
 ghost use Rattle.sl_law_meaning.specs.meaning.Counts.{HoldsStages};
 
 use crate::covering::covering_sheet;
-use crate::naming::{Naming, law_name};
-use crate::parties::{lists_sheet, open_sheet, parties_sheet, seat_parts, singles_sheet};
-use crate::rows::{Form, Part, add_sheet, one_row_sheet};
+use crate::naming::{owned, text_of};
+use crate::parties::{lists_sheet, open_sheet, parties_sheet, singles_sheet};
+use crate::rows::{ColumnForm, add_sheet, one_row_sheet};
 use crate::scopes::{entries_sheet, scopes_sheet};
-use crate::texts::{ColumnHead, LAW_TITLE};
+use crate::texts::LAW_TITLE;
 use sl_base_quotients::NoMemory;
-use sl_report_forms::{Look, Sheet};
+use sl_report_forms::{Cell, Look, Names, Sheet};
 use sl_report_parties::{Seats, Setting, seats_in_all};
 use sl_report_results::{Counted, Scoped, stage_scopes};
-use sl_stages::{Book, Returns, Table};
+use sl_stages::{Returns, Table};
 use std::alloc::Global;
 
-const LAW: [Form; 5] = [
-    ("law", ColumnHead::Law, Look::Text(60)),
-    ("house", ColumnHead::House, Look::Number),
-    ("seats", ColumnHead::Seats, Look::Number),
-    ("direct", ColumnHead::Direct, Look::Number),
-    ("vacant", ColumnHead::Vacant, Look::Number),
+const LAW: [ColumnForm; 5] = [
+    ("law", "law", "Gesetz", Look::Text(60)),
+    ("house", "house", "Hausgröße", Look::Number),
+    ("seats", "seats", "Sitze", Look::Number),
+    ("direct", "direct", "direkt", Look::Number),
+    ("vacant", "vacant", "unbesetzt", Look::Number),
 ];
 
 // The seats in all, where a table is known.
@@ -45,20 +45,21 @@ fn seats_in(table: Option<&Table>) -> Option<Seats>
 pub(crate) fn law_sheet(
     alloc: Global,
     setting: &Setting<'_>,
-    naming: &Naming<'_>,
+    names: &Names,
     table: Option<&Table>,
 ) -> Result<Sheet, NoMemory>
-    ensures { IfOk result (λ s. table_of s ≡ law_table (house_of setting.now.book.now setting.now.returns.now) (option_map (λ t. t.now) table.entry)) }
+    ensures { IfOk result (λ s. table_of s ≡ law_table setting.now.book.now (house_of setting.now.book.now setting.now.returns.now) (option_map (λ t. t.now) table.entry)) }
 {
-    let [seats, direct, vacant] = seat_parts(seats_in(table));
-    let parts = [
-        Part::Text(law_name(setting.book)),
-        Part::Number(setting.house()),
-        seats,
-        direct,
-        vacant,
-    ];
-    one_row_sheet(alloc, naming, "law", LAW_TITLE, &LAW, &parts)
+    let seats = seats_in(table);
+    let law = owned(alloc, text_of(setting.book.law.as_slice()))?;
+    let row = vec![in alloc;
+        Cell::Text(law),
+        Cell::Number(setting.house()),
+        Cell::known(seats.map(|seats| seats.seats)),
+        Cell::known(seats.map(|seats| seats.direct)),
+        Cell::known(seats.map(|seats| seats.vacant)),
+    ]?;
+    one_row_sheet(alloc, names, "law", LAW_TITLE, &LAW, row)
 }
 
 /// The scopes of all stages.
@@ -82,15 +83,14 @@ pub(crate) fn all_scopes(
 fn push_scope_sheets(
     alloc: Global,
     sheets: &mut Vec<Sheet>,
-    book: &Book,
-    naming: &Naming<'_>,
+    names: &Names,
     scopes: &[Scoped],
 ) -> Result<(), NoMemory>
     ensures { OnOk result (map table_of sheets.new.items ≡ map table_of sheets.old.items ++ scope_tables scopes.now) }
 {
-    add_sheet(sheets, scopes_sheet(alloc, book, naming, scopes))?;
+    add_sheet(sheets, scopes_sheet(alloc, names, scopes))?;
     for scoped in scopes {
-        add_sheet(sheets, entries_sheet(alloc, book, naming, scoped))?;
+        add_sheet(sheets, entries_sheet(alloc, names, scoped))?;
     }
     Ok(())
 }
@@ -100,13 +100,13 @@ pub(crate) fn push_places(
     alloc: Global,
     sheets: &mut Vec<Sheet>,
     returns: &Returns,
-    naming: &Naming<'_>,
+    names: &Names,
     table: &Table,
 ) -> Result<(), NoMemory>
     ensures { OnOk result (map table_of sheets.new.items ≡ map table_of sheets.old.items ++ place_tables returns.now table.now) }
 {
-    add_sheet(sheets, singles_sheet(alloc, returns, naming, table))?;
-    add_sheet(sheets, open_sheet(alloc, returns, naming, table))?;
+    add_sheet(sheets, singles_sheet(alloc, returns, names, table))?;
+    add_sheet(sheets, open_sheet(alloc, returns, names, table))?;
     Ok(())
 }
 
@@ -115,15 +115,15 @@ fn push_winner_sheets(
     alloc: Global,
     sheets: &mut Vec<Sheet>,
     setting: &Setting<'_>,
-    naming: &Naming<'_>,
+    names: &Names,
     table: &Table,
 ) -> Result<(), NoMemory>
     ensures { OnOk result ((ranked : List Ranked)
         × AreCovered setting.now.book.now.last.seating setting.now.book.now.eligible.items table.now setting.now.returns.now ranked
         × (map table_of sheets.new.items ≡ map table_of sheets.old.items ++ winner_tables setting.now.returns.now table.now ranked)) }
 {
-    add_sheet(sheets, covering_sheet(alloc, setting, naming, table))?;
-    push_places(alloc, sheets, setting.returns, naming, table)?;
+    add_sheet(sheets, covering_sheet(alloc, setting, names, table))?;
+    push_places(alloc, sheets, setting.returns, names, table)?;
     Ok(())
 }
 
@@ -131,14 +131,14 @@ fn push_winner_sheets(
 pub(crate) fn first_sheets(
     alloc: Global,
     setting: &Setting<'_>,
-    naming: &Naming<'_>,
+    names: &Names,
     table: Option<&Table>,
 ) -> Result<Vec<Sheet>, NoMemory>
     ensures { IfOk result (λ sheets. map table_of sheets.items ≡ first_tables setting.now.book.now setting.now.returns.now (option_map (λ t. t.now) table.entry)) }
 {
     let mut sheets: Vec<Sheet> = Vec::new(alloc);
-    add_sheet(&mut sheets, law_sheet(alloc, setting, naming, table))?;
-    add_sheet(&mut sheets, parties_sheet(alloc, setting, naming, table))?;
+    add_sheet(&mut sheets, law_sheet(alloc, setting, names, table))?;
+    add_sheet(&mut sheets, parties_sheet(alloc, setting, names, table))?;
     Ok(sheets)
 }
 
@@ -147,20 +147,20 @@ pub(crate) fn first_sheets(
 pub(crate) fn report_sheets(
     alloc: Global,
     setting: &Setting<'_>,
-    naming: &Naming<'_>,
+    names: &Names,
     counted: &Counted,
 ) -> Result<Vec<Sheet>, NoMemory>
     requires { HoldsStages (book_of setting.now.book.now) setting.now.returns.now counted.now.columns.items }
     ensures { IfOk result (λ sheets. IsCountReport setting.now.book.now setting.now.returns.now counted.now (map table_of sheets.items)) }
 {
     let table = &counted.table;
-    let mut sheets = first_sheets(alloc, setting, naming, Some(table))?;
+    let mut sheets = first_sheets(alloc, setting, names, Some(table))?;
     add_sheet(
         &mut sheets,
-        lists_sheet(alloc, setting.returns, naming, table, false),
+        lists_sheet(alloc, setting.returns, names, table, false),
     )?;
     let scopes = all_scopes(alloc, setting, counted)?;
-    push_scope_sheets(alloc, &mut sheets, setting.book, naming, scopes.as_slice())?;
-    push_winner_sheets(alloc, &mut sheets, setting, naming, table)?;
+    push_scope_sheets(alloc, &mut sheets, names, scopes.as_slice())?;
+    push_winner_sheets(alloc, &mut sheets, setting, names, table)?;
     Ok(sheets)
 }

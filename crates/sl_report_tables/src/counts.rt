@@ -2,6 +2,7 @@
 
 ghost use Rattle.std.specs.Prelude.{◌≡◌, IfOk, map};
 ghost use Rattle.sl_report_forms.specs.Tables.{table_of};
+ghost use Rattle.sl_report_tables.specs.Naming.{AreNames};
 ghost use Rattle.sl_report_tables.specs.Reports.{IsFaultReport, Shows, beside};
 ghost use Rattle.sl_report_tables.specs.Ends.{HoldsEnd, end_status};
 ghost use Rattle.sl_law_meaning.specs.book.Books.{book_of};
@@ -10,14 +11,14 @@ use crate::answer::Answer;
 use crate::counted::{first_sheets, report_sheets};
 use crate::faults::fault_sheets;
 use crate::full_names::FullNames;
-use crate::naming::Naming;
+use crate::naming::names_of;
 use crate::press::press_sheets;
 use crate::stages::stage_sheets;
 use crate::steps::{seat_sheets, step_sheets};
 use sl_base_quotients::NoMemory;
 use sl_count_inputs::Status;
 use sl_explain_texts::Language;
-use sl_report_forms::Sheet;
+use sl_report_forms::{Names, Sheet};
 use sl_report_parties::{EarlierParty, Setting, parts_of};
 use sl_stages::{CheckedBook, End, LegalFault, Returns};
 use std::alloc::Global;
@@ -56,13 +57,13 @@ impl Show<'_> {
 fn sheets_of_fault(
     alloc: Global,
     setting: &Setting<'_>,
-    naming: &Naming<'_>,
+    names: &Names,
     fault: &LegalFault,
 ) -> Result<Vec<Sheet>, NoMemory>
     ensures { IfOk result (λ sheets. IsFaultReport setting.now.book.now setting.now.returns.now fault.now (map table_of sheets.items)) }
 {
-    let mut sheets = fault_sheets(alloc, setting.book, naming, fault)?;
-    let mut first = first_sheets(alloc, setting, naming, None)?;
+    let mut sheets = fault_sheets(alloc, setting.book, setting.returns, names, fault)?;
+    let mut first = first_sheets(alloc, setting, names, None)?;
     sheets.append(&mut first)?;
     Ok(sheets)
 }
@@ -72,26 +73,26 @@ fn sheets_of(
     alloc: Global,
     show: Show<'_>,
     setting: &Setting<'_>,
-    naming: &Naming<'_>,
+    names: &Names,
+    full: &FullNames,
     end: &End,
 ) -> Result<Vec<Sheet>, NoMemory>
-    requires held { HoldsEnd (book_of setting.now.book.now) setting.now.returns.now end.now }
-    requires named { naming.now.returns.now ≡ setting.now.returns.now }
+    requires { HoldsEnd (book_of setting.now.book.now) setting.now.returns.now end.now }
     ensures { IfOk result (λ sheets. Shows setting.now.book.now setting.now.returns.now show.entry end.now (map table_of sheets.items)) }
 {
     match (show, end) {
         (Show::Seats, End::Counted(counted)) => {
-            seat_sheets(alloc, setting, naming, &counted.table)
+            seat_sheets(alloc, setting, names, &counted.table)
         }
         (Show::Steps, End::Counted(counted)) => {
-            step_sheets(alloc, setting, naming, &counted.table)
+            step_sheets(alloc, setting, names, &counted.table)
         }
-        (Show::Report, End::Counted(counted)) => report_sheets(alloc, setting, naming, counted),
+        (Show::Report, End::Counted(counted)) => report_sheets(alloc, setting, names, counted),
         (Show::Short(earlier), End::Counted(counted)) => {
-            press_sheets(alloc, setting, naming, counted, earlier)
+            press_sheets(alloc, setting, names, full, counted, earlier)
         }
-        (Show::Stages, End::Counted(counted)) => stage_sheets(alloc, setting, naming, counted),
-        (_, End::Fault(fault)) => sheets_of_fault(alloc, setting, naming, fault),
+        (Show::Stages, End::Counted(counted)) => stage_sheets(alloc, setting, names, counted),
+        (_, End::Fault(fault)) => sheets_of_fault(alloc, setting, names, fault),
     }
 }
 
@@ -119,19 +120,17 @@ pub fn count_answer(
     requires { HoldsEnd (book_of book.now.book) returns.now end.now }
     ensures status { IfOk result (λ a. a.status ≡ end_status end.now) }
     ensures line { IfOk result (λ a. a.line ≡ line) }
+    ensures names { IfOk result (λ a. AreNames book.now.book.stages.items returns.now a.names) }
     ensures shows { IfOk result (λ a. Shows book.now.book returns.now show.entry end.now (map table_of a.sheets.items)) }
 {
-    let naming = Naming {
-        returns,
-        full,
-        language,
-    };
+    let names = names_of(alloc, Some(&book.book), returns, full, language)?;
     let parts = parts_of(alloc, book.book.eligible.as_slice(), returns)?;
     let setting = Setting::new(&book.book, returns, parts);
-    let sheets = sheets_of(alloc, show, &setting, &naming, end)?;
+    let sheets = sheets_of(alloc, show, &setting, &names, full, end)?;
     Ok(Answer {
         status: status_of(end),
         line,
+        names,
         sheets,
     })
 }

@@ -5,56 +5,54 @@ ghost use Rattle.sl_report_forms.specs.Tables.{table_of, with_rows};
 ghost use Rattle.sl_report_parties.specs.declared.contests.Ranked.{Ranked};
 ghost use Rattle.sl_report_tables.specs.Parties.{AreCovered, covering_table, ranked_row};
 
-use crate::naming::Naming;
-use crate::rows::{Form, Part, push_row, titled};
-use crate::texts::{COVERED_TITLE, ColumnHead};
+use crate::rows::{ColumnForm, name, percent, percent_exact, titled};
+use crate::texts::COVERED_TITLE;
 use sl_base_quotients::NoMemory;
-use sl_report_forms::{Look, Sheet};
+use sl_report_forms::{Cell, Look, Names, Sheet};
 use sl_report_parties::{Ranked, Setting, contested};
-use sl_stages::{Seating, Table};
+use sl_stages::{Item, Seating, Table};
 use std::alloc::Global;
 
-const COVERING: [Form; 12] = [
-    ("land", ColumnHead::Blank, Look::Hidden),
-    ("land_name", ColumnHead::Land, Look::Text(20)),
-    ("party", ColumnHead::Blank, Look::Hidden),
-    ("party_name", ColumnHead::Party, Look::Text(14)),
-    ("constituency", ColumnHead::Blank, Look::Hidden),
+const COVERING: [ColumnForm; 12] = [
+    ("land", "", "", Look::Hidden),
+    ("land_name", "Land", "Land", Look::Text(20)),
+    ("party", "", "", Look::Hidden),
+    ("party_name", "party", "Partei", Look::Text(14)),
+    ("constituency", "", "", Look::Hidden),
     (
         "constituency_name",
-        ColumnHead::Constituency,
+        "constituency",
+        "Wahlkreis",
         Look::Text(22),
     ),
-    ("first", ColumnHead::First, Look::Number),
-    ("valid", ColumnHead::Valid, Look::Number),
-    ("percent", ColumnHead::Percent, Look::Number),
-    ("percent_exact", ColumnHead::Blank, Look::Hidden),
-    ("rank", ColumnHead::Rank, Look::Number),
-    ("seated", ColumnHead::Seated, Look::Text(6)),
+    ("first", "first", "Erststimmen", Look::Number),
+    ("valid", "valid", "gültig", Look::Number),
+    ("percent", "percent", "Prozent", Look::Number),
+    ("percent_exact", "", "", Look::Hidden),
+    ("rank", "rank", "Rang", Look::Number),
+    ("seated", "seated", "Sitz", Look::Text(6)),
 ];
 
 // Adds the row of a winner.
-fn push_winner(
-    alloc: Global,
-    sheet: &mut Sheet,
-    naming: &Naming<'_>,
-    winner: Ranked,
-) -> Result<(), NoMemory>
+fn push_winner(alloc: Global, sheet: &mut Sheet, winner: Ranked) -> Result<(), NoMemory>
     ensures { OnOk result (table_of sheet.new ≡ with_rows (table_of sheet.old) (ranked_row winner ∷ [])) }
 {
     let first = u64::from(winner.first);
     let valid = u64::from(winner.valid);
-    let parts = [
-        Part::Land(winner.land),
-        Part::Party(winner.party),
-        Part::Win(winner.win),
-        Part::Number(first),
-        Part::Number(valid),
-        Part::Percent(first, valid),
-        Part::Number(winner.rank),
-        Part::Flag(winner.seated),
-    ];
-    push_row(alloc, sheet, naming, &parts)
+    sheet.push(vec![in alloc;
+        Cell::Entry(Item::Land(winner.land)),
+        name(Item::Land(winner.land)),
+        Cell::Entry(Item::Party(winner.party)),
+        name(Item::Party(winner.party)),
+        Cell::Entry(Item::Win(winner.win)),
+        name(Item::Win(winner.win)),
+        Cell::Number(first),
+        Cell::Number(valid),
+        percent(first, valid),
+        percent_exact(first, valid),
+        Cell::Number(winner.rank),
+        Cell::Flag(winner.seated),
+    ]?)
 }
 
 // The winners of the lists that have more winners than seats, where the book covers them.
@@ -69,12 +67,12 @@ fn covered(alloc: Global, setting: &Setting<'_>, table: &Table) -> Result<Vec<Ra
 
 // The sheet of these winners.
 #[tactic(auto, using(crate::proofs::MoreRows::rows_next))]
-fn ranked_sheet(alloc: Global, naming: &Naming<'_>, winners: &[Ranked]) -> Result<Sheet, NoMemory>
+fn ranked_sheet(alloc: Global, names: &Names, winners: &[Ranked]) -> Result<Sheet, NoMemory>
     ensures { IfOk result (λ s. table_of s ≡ covering_table winners.now) }
 {
-    let mut sheet = titled(alloc, naming, "covering", COVERED_TITLE, &COVERING)?;
+    let mut sheet = titled(alloc, names, "covering", COVERED_TITLE, &COVERING)?;
     for winner in winners {
-        push_winner(alloc, &mut sheet, naming, *winner)?;
+        push_winner(alloc, &mut sheet, *winner)?;
     }
     Ok(sheet)
 }
@@ -83,11 +81,11 @@ fn ranked_sheet(alloc: Global, naming: &Naming<'_>, winners: &[Ranked]) -> Resul
 pub(crate) fn covering_sheet(
     alloc: Global,
     setting: &Setting<'_>,
-    naming: &Naming<'_>,
+    names: &Names,
     table: &Table,
 ) -> Result<Sheet, NoMemory>
     ensures { IfOk result (λ s. (ws : List Ranked) × AreCovered setting.now.book.now.last.seating setting.now.book.now.eligible.items table.now setting.now.returns.now ws × (table_of s ≡ covering_table ws)) }
 {
     let winners = covered(alloc, setting, table)?;
-    ranked_sheet(alloc, naming, winners.as_slice())
+    ranked_sheet(alloc, names, winners.as_slice())
 }

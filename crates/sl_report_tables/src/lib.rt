@@ -1,8 +1,8 @@
 //! The tables of reports, and what the commands that report answer: sheets of one count, of the totals of returns with their warnings, of all stages,
-//! and of several rulebooks side by side; the names and words in them; and answers, which are sheets in one of five forms with a status.
+//! and of several rulebooks side by side; the names of returns; and answers, which are sheets in one of five forms with a status.
 //!
 //! Stands on `sl_count_inputs`, `sl_report_warnings`, `sl_report_forms`, `sl_report_results` and `sl_explain_faults`; used by the room report. Proved:
-//! the status of an answer, which tables it has, and what stands in the cells of each.
+//! the status of an answer, which tables it has, what stands in the cells of each, and the short names.
 //!
 //! Where an error is `NoMemory` alone, memory ran out, and nothing else is wrong.
 #![tactic(auto)]

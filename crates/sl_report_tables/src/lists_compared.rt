@@ -2,28 +2,27 @@
 
 ghost use Rattle.std.specs.List.{list_any};
 ghost use Rattle.std.specs.Prelude.{◌≡◌, ◌<◌, ◌++◌, ◌∷◌, [], IfOk, OnOk, if◌then◌else◌, map, sum_by};
+ghost use Rattle.sl_report_forms.specs.Cells.{content_of};
 ghost use Rattle.sl_report_forms.specs.Tables.{contents_of, table_of, with_rows};
 ghost use Rattle.sl_report_tables.specs.Compare.{gives_seats, has_seats, list_seats_cell, list_seats_row, list_seats_rows, list_seats_table, seats_at};
 ghost use Rattle.sl_report_parties.specs.Sums.{capped};
-ghost use Rattle.sl_report_tables.specs.Parts.{cells_of};
 ghost use Rattle.sl_report_tables.specs.inner.Seen.{seen, with_land};
 ghost use Rattle.sl_law_meaning.specs.returns.Election.{lands_of, parties_of};
 
-use crate::compare::{Judged, fault_part, push_heads};
+use crate::compare::{Judged, fault_cell, push_heads};
 use crate::local::{Local, lines_in};
-use crate::naming::Naming;
-use crate::rows::{Form, Part, put_parts, titled};
-use crate::texts::{ColumnHead, LIST_SEATS_TITLE};
+use crate::rows::{ColumnForm, name, titled};
+use crate::texts::LIST_SEATS_TITLE;
 use sl_base_quotients::NoMemory;
-use sl_report_forms::{Look, Row, Sheet};
-use sl_stages::ListSeats;
+use sl_report_forms::{Cell, Look, Names, Sheet};
+use sl_stages::{Item, ListSeats, Returns};
 use std::alloc::Global;
 
-const LISTS: [Form; 4] = [
-    ("land", ColumnHead::Blank, Look::Hidden),
-    ("land_name", ColumnHead::Land, Look::Text(22)),
-    ("party", ColumnHead::Blank, Look::Hidden),
-    ("party_name", ColumnHead::Party, Look::Text(15)),
+const LISTS: [ColumnForm; 4] = [
+    ("land", "", "", Look::Hidden),
+    ("land_name", "Land", "Land", Look::Text(22)),
+    ("party", "", "", Look::Hidden),
+    ("party_name", "party", "Partei", Look::Text(15)),
 ];
 
 // The seats of a line, if it is that of the list.
@@ -105,27 +104,21 @@ fn is_given_seats(books: &[Judged], locals: &[Local<'_>], land: usize, party: us
 }
 
 // The seats that a book gives the list; else the kind of its fault.
-fn seats_part(local: &Local<'_>, party: usize) -> Part<'static>
-    ensures { cells_of result ≡ list_seats_cell local.now.land party local.now.judged.now ∷ [] }
+fn seats_cell(local: &Local<'_>, party: usize) -> Cell
+    ensures { content_of result ≡ list_seats_cell local.now.land party local.now.judged.now }
 {
     match &local.judged.counted {
-        Some(_) => Part::Number(list_seats(local, party)),
-        None => fault_part(local.judged),
+        Some(_) => Cell::Number(list_seats(local, party)),
+        None => fault_cell(local.judged),
     }
 }
 
 // Adds a cell for each book.
-fn put_seats(
-    alloc: Global,
-    row: &mut Row,
-    naming: &Naming<'_>,
-    locals: &[Local<'_>],
-    party: usize,
-) -> Result<(), NoMemory>
-    ensures { OnOk result (contents_of row.new.cells.items ≡ contents_of row.old.cells.items ++ map (λ x. list_seats_cell x.land party x.judged.now) locals.now) }
+fn put_seats(row: &mut Vec<Cell>, locals: &[Local<'_>], party: usize) -> Result<(), NoMemory>
+    ensures { OnOk result (contents_of row.new.items ≡ contents_of row.old.items ++ map (λ x. list_seats_cell x.land party x.judged.now) locals.now) }
 {
     for local in locals {
-        put_parts(alloc, row, naming, &[seats_part(local, party)])?;
+        row.push(seats_cell(local, party))?;
     }
     Ok(())
 }
@@ -134,7 +127,6 @@ fn put_seats(
 fn push_row(
     alloc: Global,
     sheet: &mut Sheet,
-    naming: &Naming<'_>,
     books: &[Judged],
     locals: &[Local<'_>],
     land: usize,
@@ -143,10 +135,13 @@ fn push_row(
     requires { map seen locals.now ≡ map (with_land land) books.now }
     ensures { OnOk result (table_of sheet.new ≡ with_rows (table_of sheet.old) (list_seats_row books.now land party ∷ [])) }
 {
-    let mut row = Row::new(alloc);
-    let names = [Part::Land(land), Part::Party(party)];
-    put_parts(alloc, &mut row, naming, &names)?;
-    put_seats(alloc, &mut row, naming, locals, party)?;
+    let mut row = vec![in alloc;
+        Cell::Entry(Item::Land(land)),
+        name(Item::Land(land)),
+        Cell::Entry(Item::Party(party)),
+        name(Item::Party(party)),
+    ]?;
+    put_seats(&mut row, locals, party)?;
     sheet.push(row)
 }
 
@@ -154,37 +149,37 @@ fn push_row(
 fn push_list(
     alloc: Global,
     sheet: &mut Sheet,
-    naming: &Naming<'_>,
+    returns: &Returns,
     books: &[Judged],
     locals: &[Local<'_>],
     land: usize,
     party: usize,
 ) -> Result<(), NoMemory>
-    requires land { land < lands_of naming.now.returns.now }
-    requires party { party < parties_of naming.now.returns.now }
+    requires land { land < lands_of returns.now }
+    requires party { party < parties_of returns.now }
     requires locals { map seen locals.now ≡ map (with_land land) books.now }
-    ensures { OnOk result (table_of sheet.new ≡ with_rows (table_of sheet.old) (if has_seats naming.now.returns.now books.now land party then list_seats_row books.now land party ∷ [] else [])) }
+    ensures { OnOk result (table_of sheet.new ≡ with_rows (table_of sheet.old) (if has_seats returns.now books.now land party then list_seats_row books.now land party ∷ [] else [])) }
 {
-    if !naming.returns.is_list(land, party) || !is_given_seats(books, locals, land, party) {
+    if !returns.is_list(land, party) || !is_given_seats(books, locals, land, party) {
         return Ok(());
     }
-    push_row(alloc, sheet, naming, books, locals, land, party)
+    push_row(alloc, sheet, books, locals, land, party)
 }
 
 // Adds the rows of the lists in a Land.
 fn push_lists(
     alloc: Global,
     sheet: &mut Sheet,
-    naming: &Naming<'_>,
+    returns: &Returns,
     books: &[Judged],
     land: usize,
 ) -> Result<(), NoMemory>
-    requires { land < lands_of naming.now.returns.now }
-    ensures { OnOk result (table_of sheet.new ≡ with_rows (table_of sheet.old) (list_seats_rows naming.now.returns.now books.now land)) }
+    requires { land < lands_of returns.now }
+    ensures { OnOk result (table_of sheet.new ≡ with_rows (table_of sheet.old) (list_seats_rows returns.now books.now land)) }
 {
     let locals = locals(alloc, books, land)?;
-    for party in 0..naming.returns.parties() {
-        push_list(alloc, sheet, naming, books, locals.as_slice(), land, party)?;
+    for party in 0..returns.parties() {
+        push_list(alloc, sheet, returns, books, locals.as_slice(), land, party)?;
     }
     Ok(())
 }
@@ -192,15 +187,16 @@ fn push_lists(
 /// The lists in rows that have seats by one of the books, with a column for each book.
 pub(crate) fn list_seats_sheet(
     alloc: Global,
-    naming: &Naming<'_>,
+    names: &Names,
+    returns: &Returns,
     books: &[Judged],
 ) -> Result<Sheet, NoMemory>
-    ensures { IfOk result (λ s. table_of s ≡ list_seats_table naming.now.returns.now books.now) }
+    ensures { IfOk result (λ s. table_of s ≡ list_seats_table returns.now books.now) }
 {
-    let mut sheet = titled(alloc, naming, "list_seats", LIST_SEATS_TITLE, &LISTS)?;
+    let mut sheet = titled(alloc, names, "list_seats", LIST_SEATS_TITLE, &LISTS)?;
     push_heads(alloc, &mut sheet, books)?;
-    for land in 0..naming.returns.lands() {
-        push_lists(alloc, &mut sheet, naming, books, land)?;
+    for land in 0..returns.lands() {
+        push_lists(alloc, &mut sheet, returns, books, land)?;
     }
     Ok(sheet)
 }

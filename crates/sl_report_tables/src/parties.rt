@@ -1,75 +1,65 @@
 //! The sheets of parties and of lists, and of the winners who sit by themselves or not at all.
 
-ghost use Rattle.std.specs.Prelude.{◌≡◌, ◌<◌, ◌∷◌, [], IfOk, OnOk, Some, flat_map, if◌then◌else◌, length, option_map, slice_get};
+ghost use Rattle.std.specs.Prelude.{◌≡◌, ◌<◌, ◌∷◌, [], IfOk, OnOk, Some, if◌then◌else◌, length, option_map, slice_get};
 ghost use Rattle.sl_report_forms.specs.Tables.{table_of, with_rows};
 ghost use Rattle.sl_report_parties.specs.Seats.{party_seats};
-ghost use Rattle.sl_report_tables.specs.Parties.{has_place, is_shown_list, list_row, lists_table, open_table, parties_table, party_cells, party_row, placed_table, seat_cells, singles_table, winner_row};
-ghost use Rattle.sl_report_tables.specs.Parts.{cells_of};
+ghost use Rattle.sl_report_tables.specs.Parties.{has_place, is_shown_list, list_row, lists_table, open_table, parties_table, party_row, placed_table, singles_table, winner_row};
 ghost use Rattle.sl_report_tables.specs.inner.SeatsBy.{seats_by};
-ghost use Rattle.sl_law_meaning.specs.returns.Election.{parties_of};
+ghost use Rattle.sl_law_meaning.specs.returns.Election.{lands_of, parties_of};
 ghost use Rattle.sl_law_meaning.specs.returns.Facts.{all_valid_votes};
 
-use crate::naming::Naming;
-use crate::rows::{Form, Part, push_row, titled};
-use crate::texts::{ColumnHead, LISTS_TITLE, NO_PARTY, OPEN_TITLE, PARTIES_TITLE, SINGLES_TITLE};
+use crate::rows::{ColumnForm, condition, name, party, party_name, percent, percent_exact, titled};
+use crate::texts::{LISTS_TITLE, NO_PARTY, OPEN_TITLE, PARTIES_TITLE, SINGLES_TITLE};
 use sl_base_quotients::NoMemory;
 use sl_explain_texts::Message;
-use sl_report_forms::{Look, Sheet};
+use sl_report_forms::{Cell, Look, Names, Sheet};
 use sl_report_parties::{Seats, Setting, all_votes, seats_by_party};
-use sl_stages::{ListSeats, Placed, Returns, Table, Win};
+use sl_stages::{Item, ListSeats, Placed, Returns, Table, Win};
 use std::alloc::Global;
 
-const PARTIES: [Form; 10] = [
-    ("party", ColumnHead::Blank, Look::Hidden),
-    ("party_name", ColumnHead::Party, Look::Text(24)),
-    ("valid", ColumnHead::Valid, Look::Number),
-    ("percent", ColumnHead::Percent, Look::Number),
-    ("percent_exact", ColumnHead::Blank, Look::Hidden),
-    ("counted", ColumnHead::Counted, Look::Number),
-    ("condition", ColumnHead::TakesPartBy, Look::Text(14)),
-    ("seats", ColumnHead::Seats, Look::Number),
-    ("direct", ColumnHead::Direct, Look::Number),
-    ("vacant", ColumnHead::Vacant, Look::Number),
+const PARTIES: [ColumnForm; 10] = [
+    ("party", "", "", Look::Hidden),
+    ("party_name", "party", "Partei", Look::Text(24)),
+    ("valid", "valid", "gültig", Look::Number),
+    ("percent", "percent", "Prozent", Look::Number),
+    ("percent_exact", "", "", Look::Hidden),
+    ("counted", "counted", "zählend", Look::Number),
+    (
+        "condition",
+        "takes part by",
+        "nimmt teil durch",
+        Look::Text(14),
+    ),
+    ("seats", "seats", "Sitze", Look::Number),
+    ("direct", "direct", "direkt", Look::Number),
+    ("vacant", "vacant", "unbesetzt", Look::Number),
 ];
 
-const LISTS: [Form; 9] = [
-    ("land", ColumnHead::Blank, Look::Hidden),
-    ("land_name", ColumnHead::Land, Look::Text(28)),
-    ("party", ColumnHead::Blank, Look::Hidden),
-    ("party_name", ColumnHead::Party, Look::Text(28)),
-    ("valid", ColumnHead::Blank, Look::Hidden),
-    ("counted", ColumnHead::Counted, Look::Number),
-    ("seats", ColumnHead::Seats, Look::Number),
-    ("direct", ColumnHead::Direct, Look::Number),
-    ("vacant", ColumnHead::Vacant, Look::Number),
+const LISTS: [ColumnForm; 9] = [
+    ("land", "", "", Look::Hidden),
+    ("land_name", "Land", "Land", Look::Text(28)),
+    ("party", "", "", Look::Hidden),
+    ("party_name", "party", "Partei", Look::Text(28)),
+    ("valid", "", "", Look::Hidden),
+    ("counted", "counted", "zählend", Look::Number),
+    ("seats", "seats", "Sitze", Look::Number),
+    ("direct", "direct", "direkt", Look::Number),
+    ("vacant", "vacant", "unbesetzt", Look::Number),
 ];
 
-const WINNERS: [Form; 6] = [
-    ("constituency", ColumnHead::Blank, Look::Hidden),
+const WINNERS: [ColumnForm; 6] = [
+    ("constituency", "", "", Look::Hidden),
     (
         "constituency_name",
-        ColumnHead::Constituency,
+        "constituency",
+        "Wahlkreis",
         Look::Text(40),
     ),
-    ("land", ColumnHead::Blank, Look::Hidden),
-    ("land_name", ColumnHead::Land, Look::Text(26)),
-    ("party", ColumnHead::Blank, Look::Hidden),
-    ("party_name", ColumnHead::Party, Look::Text(26)),
+    ("land", "", "", Look::Hidden),
+    ("land_name", "Land", "Land", Look::Text(26)),
+    ("party", "", "", Look::Hidden),
+    ("party_name", "party", "Partei", Look::Text(26)),
 ];
-
-/// The parts of seats, where a table is known.
-pub(crate) fn seat_parts(seats: Option<Seats>) -> [Part<'static>; 3]
-    ensures { flat_map cells_of result ≡ seat_cells seats }
-{
-    match seats {
-        Some(seats) => [
-            Part::Number(seats.seats),
-            Part::Number(seats.direct),
-            Part::Number(seats.vacant),
-        ],
-        None => [Part::Empty, Part::Empty, Part::Empty],
-    }
-}
 
 // The seats of each party, where a table is known.
 fn seats_by(alloc: Global, table: Option<&Table>, returns: &Returns) -> Result<Vec<Seats>, NoMemory>
@@ -100,7 +90,6 @@ fn push_party(
     alloc: Global,
     sheet: &mut Sheet,
     setting: &Setting<'_>,
-    naming: &Naming<'_>,
     table: Option<&Table>,
     seats: &[Seats],
     valid: u64,
@@ -114,39 +103,64 @@ fn push_party(
 {
     let part = setting.part(party);
     let seats = party_seats(table, setting.returns, seats, party);
-    let [seats, direct, vacant] = seat_parts(seats);
-    let parts = [
-        Part::Party(party),
-        Part::Number(part.votes.valid),
-        Part::Percent(part.votes.valid, valid),
-        Part::Number(part.votes.counted),
-        Part::Met(setting.book.eligible.as_slice(), part.met),
-        seats,
-        direct,
-        vacant,
-    ];
-    push_row(alloc, sheet, naming, &parts)
+    let met = condition(setting.book.eligible.as_slice(), part.met);
+    sheet.push(vec![in alloc;
+        Cell::Entry(Item::Party(party)),
+        name(Item::Party(party)),
+        Cell::Number(part.votes.valid),
+        percent(part.votes.valid, valid),
+        percent_exact(part.votes.valid, valid),
+        Cell::Number(part.votes.counted),
+        met,
+        Cell::known(seats.map(|seats| seats.seats)),
+        Cell::known(seats.map(|seats| seats.direct)),
+        Cell::known(seats.map(|seats| seats.vacant)),
+    ]?)
 }
 
 /// Who takes part and by which condition, with the seats where a table is known.
 pub(crate) fn parties_sheet(
     alloc: Global,
     setting: &Setting<'_>,
-    naming: &Naming<'_>,
+    names: &Names,
     table: Option<&Table>,
 ) -> Result<Sheet, NoMemory>
     ensures { IfOk result (λ s. table_of s ≡ parties_table setting.now.book.now.eligible.items setting.now.returns.now (option_map (λ t. t.now) table.entry)) }
 {
-    let mut sheet = titled(alloc, naming, "parties", PARTIES_TITLE, &PARTIES)?;
+    let mut sheet = titled(alloc, names, "parties", PARTIES_TITLE, &PARTIES)?;
     let valid = all_votes(setting.returns).valid;
     let seats = seats_by(alloc, table, setting.returns)?;
     let seats = seats.as_slice();
     for party in 0..setting.returns.parties() {
-        push_party(
-            alloc, &mut sheet, setting, naming, table, seats, valid, party,
-        )?;
+        push_party(alloc, &mut sheet, setting, table, seats, valid, party)?;
     }
     Ok(sheet)
+}
+
+// Adds the row of a list of the returns.
+fn push_list_row(
+    alloc: Global,
+    sheet: &mut Sheet,
+    returns: &Returns,
+    list: ListSeats,
+) -> Result<(), NoMemory>
+    requires land { list.land < lands_of returns.now }
+    requires party { list.party < parties_of returns.now }
+    ensures { OnOk result (table_of sheet.new ≡ with_rows (table_of sheet.old) (list_row returns.now list ∷ [])) }
+{
+    let valid = u64::from(returns.valid(list.land, list.party));
+    let counted = u64::from(returns.counted(list.land, list.party));
+    sheet.push(vec![in alloc;
+        Cell::Entry(Item::Land(list.land)),
+        name(Item::Land(list.land)),
+        Cell::Entry(Item::Party(list.party)),
+        name(Item::Party(list.party)),
+        Cell::Number(valid),
+        Cell::Number(counted),
+        Cell::Number(list.seats),
+        Cell::Number(list.direct),
+        Cell::Number(list.vacant),
+    ]?)
 }
 
 // Adds the row of a list of the returns: of any, or if it has votes or seats.
@@ -154,7 +168,6 @@ fn push_list(
     alloc: Global,
     sheet: &mut Sheet,
     returns: &Returns,
-    naming: &Naming<'_>,
     list: ListSeats,
     any: bool,
 ) -> Result<(), NoMemory>
@@ -163,47 +176,27 @@ fn push_list(
     if list.land >= returns.lands() || list.party >= returns.parties() {
         return Ok(());
     }
-    let valid = returns.valid(list.land, list.party);
-    if !any && valid == 0 && list.seats == 0 {
+    if !any && returns.valid(list.land, list.party) == 0 && list.seats == 0 {
         return Ok(());
     }
-    let parts = [
-        Part::Land(list.land),
-        Part::Party(list.party),
-        Part::Number(u64::from(valid)),
-        Part::Number(u64::from(returns.counted(list.land, list.party))),
-        Part::Number(list.seats),
-        Part::Number(list.direct),
-        Part::Number(list.vacant),
-    ];
-    push_row(alloc, sheet, naming, &parts)
+    push_list_row(alloc, sheet, returns, list)
 }
 
 /// The lists: all of them, or those that have votes or seats.
 pub(crate) fn lists_sheet(
     alloc: Global,
     returns: &Returns,
-    naming: &Naming<'_>,
+    names: &Names,
     table: &Table,
     any: bool,
 ) -> Result<Sheet, NoMemory>
     ensures { IfOk result (λ s. table_of s ≡ lists_table any returns.now table.now) }
 {
-    let mut sheet = titled(alloc, naming, "lists", LISTS_TITLE, &LISTS)?;
+    let mut sheet = titled(alloc, names, "lists", LISTS_TITLE, &LISTS)?;
     for list in table.lists() {
-        push_list(alloc, &mut sheet, returns, naming, *list, any)?;
+        push_list(alloc, &mut sheet, returns, *list, any)?;
     }
     Ok(sheet)
-}
-
-// The party of a winner, or a word where there is none.
-fn party_part(party: Option<usize>) -> Part<'static>
-    ensures { cells_of result ≡ party_cells party }
-{
-    match party {
-        Some(party) => Part::Party(party),
-        None => Part::InPlace(NO_PARTY),
-    }
 }
 
 // Whether a place is the wanted one.
@@ -222,23 +215,24 @@ fn has_place(wanted: Placed, place: Placed) -> bool
 fn push_winner(
     alloc: Global,
     sheet: &mut Sheet,
-    naming: &Naming<'_>,
     number: usize,
     win: Win,
     wanted: Placed,
     place: Placed,
 ) -> Result<(), NoMemory>
-    ensures { OnOk result (table_of sheet.new ≡ with_rows (table_of sheet.old) (if has_place wanted place then winner_row win ∷ [] else [])) }
+    ensures { OnOk result (table_of sheet.new ≡ with_rows (table_of sheet.old) (if has_place wanted place then winner_row (number, win) ∷ [] else [])) }
 {
     if !has_place(wanted, place) {
         return Ok(());
     }
-    let parts = [
-        Part::Win(number),
-        Part::Land(win.land),
-        party_part(win.party),
-    ];
-    push_row(alloc, sheet, naming, &parts)
+    sheet.push(vec![in alloc;
+        Cell::Entry(Item::Win(number)),
+        name(Item::Win(number)),
+        Cell::Entry(Item::Land(win.land)),
+        name(Item::Land(win.land)),
+        party(win.party),
+        party_name(win.party, NO_PARTY),
+    ]?)
 }
 
 // The place of the winner of that number.
@@ -253,7 +247,7 @@ fn place_at(placed: &[Placed], number: usize) -> Placed
 fn placed_sheet(
     alloc: Global,
     returns: &Returns,
-    naming: &Naming<'_>,
+    names: &Names,
     table: &Table,
     key: &'static str,
     title: Message,
@@ -261,12 +255,12 @@ fn placed_sheet(
 ) -> Result<Sheet, NoMemory>
     ensures { IfOk result (λ s. table_of s ≡ placed_table key.now (has_place wanted) returns.now table.now) }
 {
-    let mut sheet = titled(alloc, naming, key, title, &WINNERS)?;
+    let mut sheet = titled(alloc, names, key, title, &WINNERS)?;
     let placed = table.placed();
     for number in 0..returns.wins().min(placed.len()) {
         let win = returns.win(number);
         let place = place_at(placed, number);
-        push_winner(alloc, &mut sheet, naming, number, win, wanted, place)?;
+        push_winner(alloc, &mut sheet, number, win, wanted, place)?;
     }
     Ok(sheet)
 }
@@ -275,7 +269,7 @@ fn placed_sheet(
 pub(crate) fn singles_sheet(
     alloc: Global,
     returns: &Returns,
-    naming: &Naming<'_>,
+    names: &Names,
     table: &Table,
 ) -> Result<Sheet, NoMemory>
     ensures { IfOk result (λ s. table_of s ≡ singles_table returns.now table.now) }
@@ -283,7 +277,7 @@ pub(crate) fn singles_sheet(
     placed_sheet(
         alloc,
         returns,
-        naming,
+        names,
         table,
         "singles",
         SINGLES_TITLE,
@@ -295,7 +289,7 @@ pub(crate) fn singles_sheet(
 pub(crate) fn open_sheet(
     alloc: Global,
     returns: &Returns,
-    naming: &Naming<'_>,
+    names: &Names,
     table: &Table,
 ) -> Result<Sheet, NoMemory>
     ensures { IfOk result (λ s. table_of s ≡ open_table returns.now table.now) }
@@ -303,7 +297,7 @@ pub(crate) fn open_sheet(
     placed_sheet(
         alloc,
         returns,
-        naming,
+        names,
         table,
         "open",
         OPEN_TITLE,

@@ -6,7 +6,7 @@ ghost use Rattle.sl_report_tables.specs.Totals.{AreTotals};
 
 use crate::answer::Answer;
 use crate::full_names::FullNames;
-use crate::naming::Naming;
+use crate::naming::names_of;
 use crate::totals::total_sheets;
 use sl_base_quotients::NoMemory;
 use sl_explain_texts::Language;
@@ -21,13 +21,9 @@ pub fn totals_answer(
     full: &FullNames,
     language: Language,
 ) -> Result<Answer, NoMemory>
-    ensures { IfOk result (HasTables (AreTotals (option_map (λ b. b.now) book.entry) returns.now)) }
+    ensures { IfOk result (HasTables returns.now (AreTotals (option_map (λ b. b.now) book.entry) returns.now)) }
 {
-    let naming = Naming {
-        returns,
-        full,
-        language,
-    };
-    let sheets = total_sheets(alloc, book, &naming)?;
-    Ok(Answer::done(alloc, sheets))
+    let names = names_of(alloc, None, returns, full, language)?;
+    let sheets = total_sheets(alloc, book, &names, returns)?;
+    Ok(Answer::done(alloc, names, sheets))
 }

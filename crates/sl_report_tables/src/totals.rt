@@ -8,79 +8,89 @@ ghost use Rattle.sl_report_tables.specs.Totals.{AreTotals, IsVotesRow, IsVotesTa
 ghost use Rattle.sl_law_meaning.specs.returns.Election.{lands_of, parties_of};
 ghost use Rattle.sl_law_meaning.specs.returns.Facts.{all_valid_votes};
 
-use crate::naming::Naming;
-use crate::rows::{Form, Part, add_sheet, one_row_sheet, push_row, titled};
-use crate::texts::{ColumnHead, LANDS_TITLE, PARTIES_TITLE, TOTALS_TITLE, WINNERS_TITLE};
+use crate::rows::{
+    ColumnForm, add_sheet, condition, name, one_row_sheet, percent, percent_exact, titled,
+};
+use crate::texts::{LANDS_TITLE, PARTIES_TITLE, TOTALS_TITLE, WINNERS_TITLE};
 use crate::warnings::warnings_sheet;
 use sl_base_quotients::NoMemory;
-use sl_report_forms::{Look, Sheet};
+use sl_report_forms::{Cell, Look, Names, Sheet};
 use sl_report_parties::{
     PartyPart, WinnerCounts, all_lists, all_people, all_votes, lacking_votes, lacking_winners,
     land_votes, lists_of, parts_of, winners_of,
 };
-use sl_stages::{Book, Cond};
+use sl_stages::{Book, Cond, Item, Returns};
 use std::alloc::Global;
 
-const TOTALS: [Form; 8] = [
-    ("valid", ColumnHead::Valid, Look::Number),
-    ("counted", ColumnHead::Counted, Look::Number),
-    ("people", ColumnHead::People, Look::Number),
-    ("lands", ColumnHead::Lands, Look::Number),
-    ("parties", ColumnHead::Parties, Look::Number),
-    ("lists", ColumnHead::Lists, Look::Number),
-    ("winners", ColumnHead::Winners, Look::Number),
-    ("independents", ColumnHead::WithoutParty, Look::Number),
+const TOTALS: [ColumnForm; 8] = [
+    ("valid", "valid", "gültig", Look::Number),
+    ("counted", "counted", "zählend", Look::Number),
+    ("people", "people", "Einwohner", Look::Number),
+    ("lands", "Länder", "Länder", Look::Number),
+    ("parties", "parties", "Parteien", Look::Number),
+    ("lists", "lists", "Listen", Look::Number),
+    ("winners", "winners", "Wahlkreise", Look::Number),
+    ("independents", "without party", "ohne Partei", Look::Number),
 ];
 
-const VOTES: [Form; 11] = [
-    ("party", ColumnHead::Blank, Look::Hidden),
-    ("party_name", ColumnHead::Party, Look::Text(24)),
-    ("valid", ColumnHead::Valid, Look::Number),
-    ("percent", ColumnHead::Percent, Look::Number),
-    ("percent_exact", ColumnHead::Blank, Look::Hidden),
-    ("counted", ColumnHead::Counted, Look::Number),
-    ("lists", ColumnHead::Blank, Look::Hidden),
-    ("winners", ColumnHead::Winners, Look::Number),
-    ("condition", ColumnHead::TakesPartBy, Look::Text(14)),
-    ("votes_short", ColumnHead::LacksVotes, Look::Number),
-    ("winners_short", ColumnHead::LacksWinners, Look::Number),
+const VOTES: [ColumnForm; 11] = [
+    ("party", "", "", Look::Hidden),
+    ("party_name", "party", "Partei", Look::Text(24)),
+    ("valid", "valid", "gültig", Look::Number),
+    ("percent", "percent", "Prozent", Look::Number),
+    ("percent_exact", "", "", Look::Hidden),
+    ("counted", "counted", "zählend", Look::Number),
+    ("lists", "", "", Look::Hidden),
+    ("winners", "winners", "Wahlkreise", Look::Number),
+    (
+        "condition",
+        "takes part by",
+        "nimmt teil durch",
+        Look::Text(14),
+    ),
+    ("votes_short", "lacks votes", "Stimmen fehlen", Look::Number),
+    (
+        "winners_short",
+        "lacks winners",
+        "Wahlkreise fehlen",
+        Look::Number,
+    ),
 ];
 
-const LANDS: [Form; 7] = [
-    ("land", ColumnHead::Blank, Look::Hidden),
-    ("land_name", ColumnHead::Land, Look::Text(30)),
-    ("people", ColumnHead::People, Look::Number),
-    ("valid", ColumnHead::Valid, Look::Number),
-    ("counted", ColumnHead::Counted, Look::Number),
-    ("winners", ColumnHead::Winners, Look::Number),
-    ("independents", ColumnHead::WithoutParty, Look::Number),
+const LANDS: [ColumnForm; 7] = [
+    ("land", "", "", Look::Hidden),
+    ("land_name", "Land", "Land", Look::Text(30)),
+    ("people", "people", "Einwohner", Look::Number),
+    ("valid", "valid", "gültig", Look::Number),
+    ("counted", "counted", "zählend", Look::Number),
+    ("winners", "winners", "Wahlkreise", Look::Number),
+    ("independents", "without party", "ohne Partei", Look::Number),
 ];
 
-const WINNERS: [Form; 5] = [
-    ("land", ColumnHead::Blank, Look::Hidden),
-    ("land_name", ColumnHead::Land, Look::Text(34)),
-    ("party", ColumnHead::Blank, Look::Hidden),
-    ("party_name", ColumnHead::Party, Look::Text(34)),
-    ("winners", ColumnHead::Winners, Look::Number),
+const WINNERS: [ColumnForm; 5] = [
+    ("land", "", "", Look::Hidden),
+    ("land_name", "Land", "Land", Look::Text(34)),
+    ("party", "", "", Look::Hidden),
+    ("party_name", "party", "Partei", Look::Text(34)),
+    ("winners", "winners", "Wahlkreise", Look::Number),
 ];
 
 // The sums of all returns.
-fn totals_sheet(alloc: Global, naming: &Naming<'_>) -> Result<Sheet, NoMemory>
-    ensures { IfOk result (λ s. table_of s ≡ totals_table naming.now.returns.now) }
+fn totals_sheet(alloc: Global, names: &Names, returns: &Returns) -> Result<Sheet, NoMemory>
+    ensures { IfOk result (λ s. table_of s ≡ totals_table returns.now) }
 {
-    let returns = naming.returns;
     let votes = all_votes(returns);
-    let parts = [
-        Part::Number(votes.valid),
-        Part::Number(votes.counted),
-        Part::Number(all_people(returns)),
-        Part::Number(returns.lands() as u64),
-        Part::Number(returns.parties() as u64),
-        Part::Number(all_lists(returns)),
-        Part::Number(returns.wins() as u64),
-        Part::Number(winners_of(returns, None)),
-    ];
-    one_row_sheet(alloc, naming, "totals", TOTALS_TITLE, &TOTALS, &parts)
+    let row = vec![in alloc;
+        Cell::Number(votes.valid),
+        Cell::Number(votes.counted),
+        Cell::Number(all_people(returns)),
+        Cell::Number(returns.lands() as u64),
+        Cell::Number(returns.parties() as u64),
+        Cell::Number(all_lists(returns)),
+        Cell::Number(returns.wins() as u64),
+        Cell::Number(winners_of(returns, None)),
+    ]?;
+    one_row_sheet(alloc, names, "totals", TOTALS_TITLE, &TOTALS, row)
 }
 
 // Adds the row of a party that has so much, of so many valid votes in all.
@@ -88,41 +98,47 @@ fn push_party(
     alloc: Global,
     sheet: &mut Sheet,
     conditions: &[Cond],
-    naming: &Naming<'_>,
+    returns: &Returns,
     party: usize,
     part: PartyPart,
     valid: u64,
 ) -> Result<(), NoMemory>
-    requires party { party < parties_of naming.now.returns.now }
-    requires part { part ≡ part_of conditions.now naming.now.returns.now party }
-    requires valid { valid ≡ all_valid_votes naming.now.returns.now }
-    ensures { OnOk result ((row : List Content) × IsVotesRow conditions.now naming.now.returns.now party row × (table_of sheet.new ≡ with_rows (table_of sheet.old) (row ∷ []))) }
+    requires party { party < parties_of returns.now }
+    requires part { part ≡ part_of conditions.now returns.now party }
+    requires valid { valid ≡ all_valid_votes returns.now }
+    ensures { OnOk result ((row : List Content) × IsVotesRow conditions.now returns.now party row × (table_of sheet.new ≡ with_rows (table_of sheet.old) (row ∷ []))) }
 {
-    let parts = [
-        Part::Party(party),
-        Part::Number(part.votes.valid),
-        Part::Percent(part.votes.valid, valid),
-        Part::Number(part.votes.counted),
-        Part::Number(lists_of(naming.returns, party)),
-        Part::Number(part.winners),
-        Part::Met(conditions, part.met),
-        Part::Known(lacking_votes(conditions, part, valid)),
-        Part::Known(lacking_winners(conditions, part)),
-    ];
-    push_row(alloc, sheet, naming, &parts)?;
+    sheet.push(vec![in alloc;
+        Cell::Entry(Item::Party(party)),
+        name(Item::Party(party)),
+        Cell::Number(part.votes.valid),
+        percent(part.votes.valid, valid),
+        percent_exact(part.votes.valid, valid),
+        Cell::Number(part.votes.counted),
+        Cell::Number(lists_of(returns, party)),
+        Cell::Number(part.winners),
+        condition(conditions, part.met),
+        Cell::known(lacking_votes(conditions, part, valid)),
+        Cell::known(lacking_winners(conditions, part)),
+    ]?)?;
     Ok(())
 }
 
 // The votes and winners of the parties.
-fn votes_sheet(alloc: Global, conditions: &[Cond], naming: &Naming<'_>) -> Result<Sheet, NoMemory>
-    ensures { IfOk result (λ s. IsVotesTable conditions.now naming.now.returns.now (table_of s)) }
+fn votes_sheet(
+    alloc: Global,
+    conditions: &[Cond],
+    names: &Names,
+    returns: &Returns,
+) -> Result<Sheet, NoMemory>
+    ensures { IfOk result (λ s. IsVotesTable conditions.now returns.now (table_of s)) }
 {
-    let mut sheet = titled(alloc, naming, "votes", PARTIES_TITLE, &VOTES)?;
-    let valid = all_votes(naming.returns).valid;
-    let parts = parts_of(alloc, conditions, naming.returns)?;
-    for party in 0..naming.returns.parties() {
+    let mut sheet = titled(alloc, names, "votes", PARTIES_TITLE, &VOTES)?;
+    let valid = all_votes(returns).valid;
+    let parts = parts_of(alloc, conditions, returns)?;
+    for party in 0..returns.parties() {
         let part = parts[party];
-        push_party(alloc, &mut sheet, conditions, naming, party, part, valid)?;
+        push_party(alloc, &mut sheet, conditions, returns, party, part, valid)?;
     }
     Ok(sheet)
 }
@@ -131,38 +147,39 @@ fn votes_sheet(alloc: Global, conditions: &[Cond], naming: &Naming<'_>) -> Resul
 fn push_land(
     alloc: Global,
     sheet: &mut Sheet,
-    naming: &Naming<'_>,
+    returns: &Returns,
     counts: &WinnerCounts<'_>,
     land: usize,
 ) -> Result<(), NoMemory>
-    requires counts { counts.now.returns.now ≡ naming.now.returns.now }
-    requires land { land < lands_of naming.now.returns.now }
-    ensures { OnOk result (table_of sheet.new ≡ with_rows (table_of sheet.old) (land_row naming.now.returns.now land ∷ [])) }
+    requires counts { counts.now.returns.now ≡ returns.now }
+    requires land { land < lands_of returns.now }
+    ensures { OnOk result (table_of sheet.new ≡ with_rows (table_of sheet.old) (land_row returns.now land ∷ [])) }
 {
-    let votes = land_votes(naming.returns, land);
-    let parts = [
-        Part::Land(land),
-        Part::Number(u64::from(naming.returns.population(land))),
-        Part::Number(votes.valid),
-        Part::Number(votes.counted),
-        Part::Number(counts.in_land(land)),
-        Part::Number(counts.independents(land)),
-    ];
-    push_row(alloc, sheet, naming, &parts)
+    let votes = land_votes(returns, land);
+    sheet.push(vec![in alloc;
+        Cell::Entry(Item::Land(land)),
+        name(Item::Land(land)),
+        Cell::Number(u64::from(returns.population(land))),
+        Cell::Number(votes.valid),
+        Cell::Number(votes.counted),
+        Cell::Number(counts.in_land(land)),
+        Cell::Number(counts.independents(land)),
+    ]?)
 }
 
 // The people, the votes and the winners of the Länder.
 fn lands_sheet(
     alloc: Global,
-    naming: &Naming<'_>,
+    names: &Names,
+    returns: &Returns,
     counts: &WinnerCounts<'_>,
 ) -> Result<Sheet, NoMemory>
-    requires { counts.now.returns.now ≡ naming.now.returns.now }
-    ensures { IfOk result (λ s. table_of s ≡ lands_table naming.now.returns.now) }
+    requires { counts.now.returns.now ≡ returns.now }
+    ensures { IfOk result (λ s. table_of s ≡ lands_table returns.now) }
 {
-    let mut sheet = titled(alloc, naming, "lands", LANDS_TITLE, &LANDS)?;
-    for land in 0..naming.returns.lands() {
-        push_land(alloc, &mut sheet, naming, counts, land)?;
+    let mut sheet = titled(alloc, names, "lands", LANDS_TITLE, &LANDS)?;
+    for land in 0..returns.lands() {
+        push_land(alloc, &mut sheet, returns, counts, land)?;
     }
     Ok(sheet)
 }
@@ -171,36 +188,41 @@ fn lands_sheet(
 fn push_won(
     alloc: Global,
     sheet: &mut Sheet,
-    naming: &Naming<'_>,
+    returns: &Returns,
     counts: &WinnerCounts<'_>,
     land: usize,
     party: usize,
 ) -> Result<(), NoMemory>
-    requires counts { counts.now.returns.now ≡ naming.now.returns.now }
-    requires party { party < parties_of naming.now.returns.now }
-    ensures { OnOk result (table_of sheet.new ≡ with_rows (table_of sheet.old) (if nat_lt 0 (won_at naming.now.returns.now land party) then won_row naming.now.returns.now land party ∷ [] else [])) }
+    requires counts { counts.now.returns.now ≡ returns.now }
+    requires party { party < parties_of returns.now }
+    ensures { OnOk result (table_of sheet.new ≡ with_rows (table_of sheet.old) (if nat_lt 0 (won_at returns.now land party) then won_row returns.now land party ∷ [] else [])) }
 {
     let winners = counts.at(land, party);
     if winners == 0 {
         return Ok(());
     }
-    let parts = [Part::Land(land), Part::Party(party), Part::Number(winners)];
-    push_row(alloc, sheet, naming, &parts)
+    sheet.push(vec![in alloc;
+        Cell::Entry(Item::Land(land)),
+        name(Item::Land(land)),
+        Cell::Entry(Item::Party(party)),
+        name(Item::Party(party)),
+        Cell::Number(winners),
+    ]?)
 }
 
 // Adds the winners of a Land by party.
 fn push_winners(
     alloc: Global,
     sheet: &mut Sheet,
-    naming: &Naming<'_>,
+    returns: &Returns,
     counts: &WinnerCounts<'_>,
     land: usize,
 ) -> Result<(), NoMemory>
-    requires { counts.now.returns.now ≡ naming.now.returns.now }
-    ensures { OnOk result (table_of sheet.new ≡ with_rows (table_of sheet.old) (won_rows naming.now.returns.now land)) }
+    requires { counts.now.returns.now ≡ returns.now }
+    ensures { OnOk result (table_of sheet.new ≡ with_rows (table_of sheet.old) (won_rows returns.now land)) }
 {
-    for party in 0..naming.returns.parties() {
-        push_won(alloc, sheet, naming, counts, land, party)?;
+    for party in 0..returns.parties() {
+        push_won(alloc, sheet, returns, counts, land, party)?;
     }
     Ok(())
 }
@@ -208,15 +230,16 @@ fn push_winners(
 // The winners by Land and party.
 fn winners_sheet(
     alloc: Global,
-    naming: &Naming<'_>,
+    names: &Names,
+    returns: &Returns,
     counts: &WinnerCounts<'_>,
 ) -> Result<Sheet, NoMemory>
-    requires { counts.now.returns.now ≡ naming.now.returns.now }
-    ensures { IfOk result (λ s. table_of s ≡ winners_table naming.now.returns.now) }
+    requires { counts.now.returns.now ≡ returns.now }
+    ensures { IfOk result (λ s. table_of s ≡ winners_table returns.now) }
 {
-    let mut sheet = titled(alloc, naming, "winners", WINNERS_TITLE, &WINNERS)?;
-    for land in 0..naming.returns.lands() {
-        push_winners(alloc, &mut sheet, naming, counts, land)?;
+    let mut sheet = titled(alloc, names, "winners", WINNERS_TITLE, &WINNERS)?;
+    for land in 0..returns.lands() {
+        push_winners(alloc, &mut sheet, returns, counts, land)?;
     }
     Ok(sheet)
 }
@@ -235,17 +258,18 @@ fn conditions_of(book: Option<&Book>) -> &[Cond]
 pub(crate) fn total_sheets(
     alloc: Global,
     book: Option<&Book>,
-    naming: &Naming<'_>,
+    names: &Names,
+    returns: &Returns,
 ) -> Result<Vec<Sheet>, NoMemory>
-    ensures { IfOk result (λ sheets. AreTotals (option_map (λ b. b.now) book.entry) naming.now.returns.now (map table_of sheets.items)) }
+    ensures { IfOk result (λ sheets. AreTotals (option_map (λ b. b.now) book.entry) returns.now (map table_of sheets.items)) }
 {
     let conditions = conditions_of(book);
-    let counts = WinnerCounts::new(alloc, naming.returns)?;
+    let counts = WinnerCounts::new(alloc, returns)?;
     let mut sheets: Vec<Sheet> = Vec::new(alloc);
-    add_sheet(&mut sheets, totals_sheet(alloc, naming))?;
-    add_sheet(&mut sheets, votes_sheet(alloc, conditions, naming))?;
-    add_sheet(&mut sheets, lands_sheet(alloc, naming, &counts))?;
-    add_sheet(&mut sheets, winners_sheet(alloc, naming, &counts))?;
-    add_sheet(&mut sheets, warnings_sheet(alloc, book, naming))?;
+    add_sheet(&mut sheets, totals_sheet(alloc, names, returns))?;
+    add_sheet(&mut sheets, votes_sheet(alloc, conditions, names, returns))?;
+    add_sheet(&mut sheets, lands_sheet(alloc, names, returns, &counts))?;
+    add_sheet(&mut sheets, winners_sheet(alloc, names, returns, &counts))?;
+    add_sheet(&mut sheets, warnings_sheet(alloc, book, names, returns))?;
     Ok(sheets)
 }

@@ -10,85 +10,64 @@ use sl_explain_texts::{Language, Message, Speaker};
 use sl_stages::Returns;
 use std::alloc::Global;
 
-const EQUAL_PEOPLE: Message = Message {
-    english: "all Länder have the same people; the statute of 2013 splits the house by them",
-    german: "alle Länder haben gleich viele Einwohner; das Gesetz von 2013 verteilt die Sitze nach ihnen",
-};
+const EQUAL_PEOPLE: Message = Message(
+    "all Länder have the same people; the statute of 2013 splits the house by them",
+    "alle Länder haben gleich viele Einwohner; das Gesetz von 2013 verteilt die Sitze nach ihnen",
+);
 
-const LAND_WITHOUT_WINNERS: Message = Message {
-    english: "no constituency of $ has a winner",
-    german: "kein Wahlkreis von $ hat einen Sieger",
-};
+const LAND_WITHOUT_WINNERS: Message = Message(
+    "no constituency of $ has a winner",
+    "kein Wahlkreis von $ hat einen Sieger",
+);
 
-const WINNERS_WITHOUT_LIST: Message = Message {
-    english: "$ has $ and no list",
-    german: "$ hat $ und keine Liste",
-};
+const WINNERS_WITHOUT_LIST: Message = Message("$ has $ and no list", "$ hat $ und keine Liste");
 
-const WINNERS_BESIDE_LISTS: Message = Message {
-    english: "$ has $ in $ and no list there",
-    german: "$ hat $ in $ und dort keine Liste",
-};
+const WINNERS_BESIDE_LISTS: Message = Message(
+    "$ has $ in $ and no list there",
+    "$ hat $ in $ und dort keine Liste",
+);
 
-const NOTHING_COUNTED: Message = Message {
-    english: "$ of $ with valid votes, of which none is counted: column b is 0",
-    german: "$ von $ mit gültigen Stimmen, von denen keine zählt: Spalte b ist 0",
-};
+const NOTHING_COUNTED: Message = Message(
+    "$ of $ with valid votes, of which none is counted: column b is 0",
+    "$ von $ mit gültigen Stimmen, von denen keine zählt: Spalte b ist 0",
+);
 
-const SEVERAL_PARTIES: Message = Message {
-    english: "$ stands for several parties by its name, and takes part as one",
-    german: "$ steht dem Namen nach für mehrere Parteien und nimmt als eine teil",
-};
+const SEVERAL_PARTIES: Message = Message(
+    "$ stands for several parties by its name, and takes part as one",
+    "$ steht dem Namen nach für mehrere Parteien und nimmt als eine teil",
+);
 
-const LOT_UNUSED: Message = Message {
-    english: "a lot names $, where the rulebook draws none",
-    german: "ein Los nennt $, wo das Regelwerk keines zieht",
-};
+const LOT_UNUSED: Message = Message(
+    "a lot names $, where the rulebook draws none",
+    "ein Los nennt $, wo das Regelwerk keines zieht",
+);
 
-const LOT_OF_NO_ENTRY: Message = Message {
-    english: "a lot for $ names none of those among whom it is drawn: a party, a Land, or both",
-    german: "ein Los für $ nennt niemanden, unter dem es gezogen wird: eine Partei, ein Land oder beide",
-};
+const LOT_OF_NO_ENTRY: Message = Message(
+    "a lot for $ names none of those among whom it is drawn: a party, a Land, or both",
+    "ein Los für $ nennt niemanden, unter dem es gezogen wird: eine Partei, ein Land oder beide",
+);
 
-const OTHER_HOUSE: Message = Message {
-    english: "the returns have a house of $, the rulebook of $",
-    german: "die Ergebnisse haben eine Hausgröße von $, das Regelwerk von $",
-};
+const OTHER_HOUSE: Message = Message(
+    "the returns have a house of $, the rulebook of $",
+    "die Ergebnisse haben eine Hausgröße von $, das Regelwerk von $",
+);
 
-const FEW_PARTIES: Message = Message {
-    english: "$ alone: a threshold needs the votes of all parties",
-    german: "nur $: eine Sperrklausel braucht die Stimmen aller Parteien",
-};
+const FEW_PARTIES: Message = Message(
+    "$ alone: a threshold needs the votes of all parties",
+    "nur $: eine Sperrklausel braucht die Stimmen aller Parteien",
+);
 
-const WINNER: Message = Message {
-    english: "$ winner",
-    german: "$ Wahlkreissieger",
-};
+const WINNER: Message = Message("$ winner", "$ Wahlkreissieger");
 
-const WINNERS: Message = Message {
-    english: "$ winners",
-    german: "$ Wahlkreissieger",
-};
+const WINNERS: Message = Message("$ winners", "$ Wahlkreissieger");
 
-const LIST: Message = Message {
-    english: "$ list",
-    german: "$ Liste",
-};
+const LIST: Message = Message("$ list", "$ Liste");
 
-const LISTS: Message = Message {
-    english: "$ lists",
-    german: "$ Listen",
-};
+const LISTS: Message = Message("$ lists", "$ Listen");
 
-const PARTY: Message = Message {
-    english: "$ party",
-    german: "$ Partei",
-};
+const PARTY: Message = Message("$ party", "$ Partei");
 
-const PARTIES: Message = Message {
-    english: "$ parties",
-    german: "$ Parteien",
-};
+const PARTIES: Message = Message("$ parties", "$ Parteien");
 
 // The name of a Land, and no text where there is no such Land.
 fn land_name(returns: &Returns, land: usize) -> &[u8] {

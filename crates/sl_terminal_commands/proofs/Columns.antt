@@ -190,7 +190,7 @@ module _ (bytes : List ℕ → Option (List ℕ)) where
   -- a table of rulebooks is one of their columns
   shows_on : (is_refused : Bool) (e : Election) (books varied : List NamedBook) (methods : List Method) (a : Answer) → All (IsReadBook bytes) books
       → AllZip IsVariedOf (pairs books methods) varied → ShowsNamed is_refused e (books ++ varied) a → ShowsBooks bytes (columns (map word_of books) methods) is_refused e a
-  shows_on false e books varied methods a read by h = (h.0, h.1, (h.2.0, columns_on books varied methods h.2.0 read by h.2.1, h.2.2))
+  shows_on false e books varied methods a read by h = (h.0, h.1, h.2, (h.3.0, columns_on books varied methods h.3.0 read by h.3.1, h.3.2))
   shows_on true e books varied methods a read by h = h
 
   -- one of the columns is refused

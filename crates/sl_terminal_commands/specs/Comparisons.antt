@@ -92,7 +92,7 @@ table_said is_refused e = if is_refused then nothing else warned (warnings_of No
 
 -- of good rulebooks on good returns: a table of their columns; or where the names are refused a refusal
 abbrev pub ShowsBooks : (List ℕ → Option (List ℕ)) → List (List ℕ × Option Method) → (is_refused : Bool) → Election → Answer → Type 0
-ShowsBooks bytes all false e a = HasTables (λ tables. (cs : List Compared) × AllZip (IsColumnOn bytes) all cs × ShowsCompared e cs tables) a
+ShowsBooks bytes all false e a = HasTables e (λ tables. (cs : List Compared) × AllZip (IsColumnOn bytes) all cs × ShowsCompared e cs tables) a
 ShowsBooks bytes all true e a = IsRefusal a
 
 -- a refusal of the returns or of one of the columns, of which just this is told

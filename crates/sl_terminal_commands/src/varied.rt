@@ -17,10 +17,10 @@ use sl_stages::CheckedBook;
 use std::alloc::Global;
 
 // What is said where a rulebook fails a test with another method than its own.
-const OTHER_METHOD: Message = Message {
-    english: "`--method` put `$` in place of the method here",
-    german: "`--method` hat hier `$` an die Stelle des Verfahrens gesetzt",
-};
+const OTHER_METHOD: Message = Message(
+    "`--method` put `$` in place of the method here",
+    "`--method` hat hier `$` an die Stelle des Verfahrens gesetzt",
+);
 
 /// The methods that words name.
 pub(crate) fn methods_of(alloc: Global, words: &[&str]) -> Result<Vec<Method>, NoMemory>

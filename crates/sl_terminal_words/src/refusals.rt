@@ -122,7 +122,7 @@ fn translated(
     text: &str,
 ) -> Result<Option<Vec<u8>>, NoMemory> {
     for message in messages {
-        if let Some(values) = values_in(alloc, message.english, text)? {
+        if let Some(values) = values_in(alloc, message.0, text)? {
             return Ok(Some(message.text(alloc, language, values.as_slice())?));
         }
     }

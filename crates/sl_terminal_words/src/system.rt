@@ -44,7 +44,7 @@ const REASONS: [Message; 27] = [
 // A reason without its number in a language, or as it is.
 fn worded<'a>(language: Language, reason: &'a str) -> &'a str {
     for message in &REASONS {
-        if message.english == reason {
+        if message.0 == reason {
             return message.in_language(language);
         }
     }
@@ -53,7 +53,7 @@ fn worded<'a>(language: Language, reason: &'a str) -> &'a str {
 
 /// A reason of the system in a language. One that has no German text here is as the system gives it, but for the words before its number.
 pub fn reason_in(alloc: Global, language: Language, reason: &str) -> Result<String, AllocError> {
-    let Some((reason, number)) = reason.split_once(NUMBER.english) else {
+    let Some((reason, number)) = reason.split_once(NUMBER.0) else {
         return String::from_str(alloc, reason);
     };
     let reason = worded(language, reason);

@@ -55,7 +55,7 @@ fn explain_most(
     span: Span,
     remedy: &Message,
 ) -> Result<Explanation, NoMemory>
-    ensures { IfOk result (λ x. x.code ≡ Some sentence.now.code) }
+    ensures { IfOk result (λ x. x.code ≡ Some sentence.now.0) }
 {
     let most = most.to_string(speaker.alloc)?;
     speaker.explains_at(sentence, &[most.as_bytes()], span, &[remedy])
@@ -68,7 +68,7 @@ fn explain_parts(
     numbers: (u64, u32),
     span: Span,
 ) -> Result<Explanation, NoMemory>
-    ensures { IfOk result (λ x. x.code ≡ Some sentence.now.code) }
+    ensures { IfOk result (λ x. x.code ≡ Some sentence.now.0) }
 {
     let first = numbers.0.to_string(speaker.alloc)?;
     let second = numbers.1.to_string(speaker.alloc)?;

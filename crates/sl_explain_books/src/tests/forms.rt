@@ -86,7 +86,7 @@ pub fn explain_arguments(
     arguments: (ColumnType, ColumnType),
     remedy: (&Message, Shape),
 ) -> Result<Explanation, NoMemory>
-    ensures { IfOk result (λ x. x.code ≡ Some sentence.now.code) }
+    ensures { IfOk result (λ x. x.code ≡ Some sentence.now.0) }
 {
     let (remedy, shape) = remedy;
     let first = column_words(speaker, arguments.0);

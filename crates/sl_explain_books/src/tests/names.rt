@@ -79,7 +79,7 @@ fn explain_line(
     span: Span,
     remedy: &Message,
 ) -> Result<Explanation, NoMemory>
-    ensures { IfOk result (λ x. x.code ≡ Some sentence.now.code) }
+    ensures { IfOk result (λ x. x.code ≡ Some sentence.now.0) }
 {
     let line = line.to_string(speaker.alloc)?;
     speaker.explains_at(sentence, &[name, line.as_bytes()], span, &[remedy])

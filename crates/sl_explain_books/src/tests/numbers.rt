@@ -39,7 +39,7 @@ pub fn explain_seat_number(
     sentence: &Sentence,
     remedy: &Message,
 ) -> Result<Explanation, NoMemory>
-    ensures { IfOk result (λ x. x.code ≡ Some sentence.now.code) }
+    ensures { IfOk result (λ x. x.code ≡ Some sentence.now.0) }
 {
     let span = token_span(text, at);
     let most = MAX_SEATS.to_string(speaker.alloc)?;
@@ -69,7 +69,7 @@ fn explain_parts(
     span: Span,
     remedy: &Message,
 ) -> Result<Explanation, NoMemory>
-    ensures { IfOk result (λ x. x.code ≡ Some sentence.now.code) }
+    ensures { IfOk result (λ x. x.code ≡ Some sentence.now.0) }
 {
     let share = share.to_string(speaker.alloc)?;
     let per = per.to_string(speaker.alloc)?;

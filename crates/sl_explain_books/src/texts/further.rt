@@ -2,18 +2,12 @@
 
 use sl_explain_texts::Message;
 
-pub(crate) const ALSO: Message = Message {
-    english: "also refused, with these clauses left out:",
-    german: "auch abgelehnt, wenn man diese Klauseln weglässt:",
-};
+pub(crate) const ALSO: Message = Message(
+    "also refused, with these clauses left out:",
+    "auch abgelehnt, wenn man diese Klauseln weglässt:",
+);
 
 // Values: the number of the line, and what is wrong there.
-pub(crate) const LINE: Message = Message {
-    english: "  line $: $",
-    german: "  Zeile $: $",
-};
+pub(crate) const LINE: Message = Message("  line $: $", "  Zeile $: $");
 
-pub(crate) const MORE: Message = Message {
-    english: "  and $ more",
-    german: "  und $ weitere",
-};
+pub(crate) const MORE: Message = Message("  and $ more", "  und $ weitere");

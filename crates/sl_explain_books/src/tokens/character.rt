@@ -101,7 +101,7 @@ fn explain_shown(
     span: Span,
     remedy: &Message,
 ) -> Result<Explanation, NoMemory>
-    ensures { IfOk result (λ x. x.code ≡ Some sentence.now.code) }
+    ensures { IfOk result (λ x. x.code ≡ Some sentence.now.0) }
 {
     let shown = speaker.shown(character)?;
     speaker.explains_at(sentence, &[shown.as_slice()], span, &[remedy])
@@ -125,7 +125,7 @@ fn explain_byte(
     span: Span,
     remedy: &Message,
 ) -> Result<Explanation, NoMemory>
-    ensures { IfOk result (λ x. x.code ≡ Some sentence.now.code) }
+    ensures { IfOk result (λ x. x.code ≡ Some sentence.now.0) }
 {
     let number = format!(in speaker.alloc; "0x{byte:02x}")?;
     speaker.explains_at(sentence, &[number.as_bytes()], span, &[remedy])

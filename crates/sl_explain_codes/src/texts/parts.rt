@@ -2,12 +2,6 @@
 
 use sl_explain_texts::Message;
 
-pub(crate) const EXAMPLE: Message = Message {
-    english: "Example",
-    german: "Beispiel",
-};
+pub(crate) const EXAMPLE: Message = Message("Example", "Beispiel");
 
-pub(crate) const REMEDY: Message = Message {
-    english: "What to do",
-    german: "Was zu tun ist",
-};
+pub(crate) const REMEDY: Message = Message("What to do", "Was zu tun ist");

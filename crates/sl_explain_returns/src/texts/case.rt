@@ -2,12 +2,6 @@
 
 use sl_explain_texts::Message;
 
-pub(crate) const CELL: Message = Message {
-    english: "$ cell",
-    german: "$ Zelle",
-};
+pub(crate) const CELL: Message = Message("$ cell", "$ Zelle");
 
-pub(crate) const CELLS: Message = Message {
-    english: "$ cells",
-    german: "$ Zellen",
-};
+pub(crate) const CELLS: Message = Message("$ cells", "$ Zellen");

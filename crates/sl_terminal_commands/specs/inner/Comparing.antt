@@ -88,7 +88,7 @@ pub record HasColumns (books : List NamedBook) (cs : List Compared) : Type 0 whe
   pub columns : AreGood books → AllZip IsColumn books cs
 
 abbrev pub ShowsNamed : (is_refused : Bool) → Election → List NamedBook → Answer → Type 0
-ShowsNamed false e books a = HasTables (λ tables. (cs : List Compared) × AllZip IsColumn books cs × ShowsCompared e cs tables) a
+ShowsNamed false e books a = HasTables e (λ tables. (cs : List Compared) × AllZip IsColumn books cs × ShowsCompared e cs tables) a
 ShowsNamed true e books a = IsRefusal a
 
 -- ---- answers

@@ -2,7 +2,7 @@
 
 use sl_explain_texts::Message;
 
-pub(crate) const NO_MEMORY: Message = Message {
-    english: "error: out of memory\n",
-    german: "Fehler: der Speicher reicht nicht\n",
-};
+pub(crate) const NO_MEMORY: Message = Message(
+    "error: out of memory\n",
+    "Fehler: der Speicher reicht nicht\n",
+);

@@ -8,4 +8,4 @@ loop-number-preserved c =
     let sheet = c.index-sheets-number.result in
     let before = take c.loop-number.number c.args.sheets.now in
     let front : take (c.loop-number.number + 1) c.args.sheets.now ≡ before ++ sheet ∷ [] = grind (arith, common_steps) in
-    rw (front, records-more [] before sheet) (grind (arith, common_steps))
+    rw (front, records-more c.args.names.now [] before sheet) (grind (arith, common_steps))

@@ -3,4 +3,4 @@ use Rattle.sl_report_forms.specs.CommaForm.{AddsRecords, comma_records}
 use Rattle.sl_report_forms.proofs.comma_form.put_sheets.Given as goal
 
 abbrev pub invariant-loop-number : goal.invariant-loop-number
-invariant-loop-number l = AddsRecords l.initial.out l.out (comma_records (take l.number l.sheets))
+invariant-loop-number l = AddsRecords l.initial.out l.out (comma_records l.names (take l.number l.sheets))

@@ -1,23 +1,17 @@
-use Rattle.std.proofs.Common.{◌∙◌, ◌+◌, ap, not, string_bytes, subst, sym, take}
-use Rattle.sl_report_forms.specs.Drafts.{Grows}
-use Rattle.sl_report_forms.specs.HtmlForm.{html_section, html_sections}
-use Rattle.sl_report_forms.proofs.HtmlLaws.{section_more, section_same}
-use Rattle.sl_report_forms.proofs.ShownSteps.{has_view_by}
+use Rattle.std.proofs.Common.{◌∙◌, ◌++◌, ◌∷◌, [], ap, sym, take}
+use Rattle.std.specs.List.{flat_map}
+use Rattle.std.proofs.lemmas.List.{take_more}
+use Rattle.sl_report_forms.specs.HtmlForm.{html_section}
+use Rattle.sl_report_forms.specs.Shown.{view_in}
+use Rattle.sl_report_forms.specs.declared.shown.Shown.{Shown}
+use Rattle.sl_report_forms.proofs.ShownSteps.{flat_map_push, grow_as, grow_more}
 use Rattle.sl_report_forms.proofs.html_form.put_sheets.Goals as goal
-use Rattle.sl_report_forms.proofs.html_form.put_sheets.Goals.{then-not-is_empty, else-not-is_empty}
 
-pub loop-sheet-preserved : goal.loop-sheet-preserved
-loop-sheet-preserved c =
+pub loop-shown-preserved : goal.loop-shown-preserved
+loop-shown-preserved c =
     let sheets = c.args.sheets.now in
-    let i = c.loop-sheet.sheet-index in
-    let s = c.sheet-item.result in
-    let seen = has_view_by s c.in_ok-shown.shown c.in_ok-shown.ensures ∙ ap not (sym c.is_empty.ensures) in
-    elim c.if-not-is_empty.branch [
-      | then-not-is_empty w ↦
-          subst (λ o. Grows c.args.out.now o (html_sections (take (i + 1) sheets))) (sym w.out-is) (
-          section_more sheets i s _ _ _ c.loop-sheet-test.true c.sheet-item.is (seen ∙ ap not w.if-not-is_empty.true) c.loop-sheet.invariant
-          (subst (λ v. Grows c.loop-sheet.out w.put_shown.new.out (html_section (string_bytes s.title) v)) c.in_ok-shown.ensures (rw w.as_str.ensures.value at w.put_shown.ensures)))
-      | else-not-is_empty w ↦
-          subst (λ o. Grows c.args.out.now o (html_sections (take (i + 1) sheets))) (sym w.out-is) (
-          section_same sheets i s _ _ c.loop-sheet-test.true c.sheet-item.is (seen ∙ ap not w.if-not-is_empty.false) c.loop-sheet.invariant)
-    ]
+    let i = c.loop-shown.shown-index in
+    let shown = c.shown-item.result in
+    grow_as _ _ _ _ (grow_more _ _ _ _ _ c.loop-shown.invariant c.put_shown.ensures) (sym (
+    ap (flat_map {X = Shown} (λ s. html_section (view_in s))) (take_more sheets i shown c.loop-shown-test.true ∙ ap (λ s. take i sheets ++ s ∷ []) (sym c.shown-item.is))
+    ∙ flat_map_push (λ s. html_section (view_in s)) (take i sheets) shown))

@@ -1,6 +1,7 @@
-use Rattle.std.proofs.Common.{take}
-use Rattle.sl_report_forms.specs.MarkdownForm.{Becomes, blocks_of, markdown_block, with_blocks}
+use Rattle.std.proofs.Common.{map, take}
+use Rattle.sl_report_forms.specs.MarkdownForm.{Becomes, markdown_block, with_blocks}
+use Rattle.sl_report_forms.specs.Shown.{view_in}
 use Rattle.sl_report_forms.proofs.markdown_form.put_sheets.Given as goal
 
-abbrev pub invariant-loop-sheet : goal.invariant-loop-sheet
-invariant-loop-sheet l = Becomes l.fn.out l.out (with_blocks (blocks_of markdown_block (take l.sheet-index l.sheets)))
+abbrev pub invariant-loop-shown : goal.invariant-loop-shown
+invariant-loop-shown l = Becomes l.fn.out l.out (with_blocks (map (λ shown. markdown_block (view_in shown)) (take l.shown-index l.sheets)))

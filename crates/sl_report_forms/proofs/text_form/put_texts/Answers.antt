@@ -3,8 +3,8 @@ use Rattle.std.specs.List.{flat_map, zip}
 use Rattle.sl_report_forms.specs.Drafts.{Grows}
 use Rattle.sl_report_forms.specs.TextForm.{in_column, padded_line}
 use Rattle.sl_report_forms.specs.declared.text_form.Column.{Column}
-use Rattle.sl_report_forms.proofs.ShownSteps.{grow_as, grow_more}
-use Rattle.sl_report_forms.proofs.TextLaws.{beside_more, beside_same, flat_map_push}
+use Rattle.sl_report_forms.proofs.ShownSteps.{flat_map_push, grow_as, grow_more}
+use Rattle.sl_report_forms.proofs.TextLaws.{beside_more, beside_same}
 use Rattle.sl_report_forms.proofs.text_form.put_texts.Goals as goal
 use Rattle.sl_report_forms.proofs.text_form.put_texts.Goals.{in-Some, in_default}
 

@@ -1,4 +1,4 @@
-use Rattle.std.proofs.Common.{Bor, List, None, Option, Result, Some, ap, option_map, subst, sym, ◌≡◌, ◌∙◌, ◌++◌, ◌∷◌, ◌-◌, [], length, drop, take, ℕ, Ok, Err}
+use Rattle.std.proofs.Common.{Bor, List, Result, ap, option_map, subst, sym, ◌≡◌, ◌∙◌, ◌++◌, ◌∷◌, ◌-◌, [], length, drop, ℕ, Ok, Err}
 use Rattle.std.proofs.lemmas.List.{append_cancel_right, take-append-drop}
 use Rattle.std.proofs.lemmas.Slice.Eq.{bytes_eq-Decides}
 use Rattle.std.specs.Prelude.{IsUtf8}

@@ -11,7 +11,7 @@ use Rattle.sl_report_tables.proofs.changes.changes_sheet.Goals as goal
 
 pub returns : goal.returns
 returns c =
-    let e = c.args.naming.now.returns.now in
+    let e = c.args.returns.now in
     let books = c.args.books.now in
     let seated = c.args.seated.now in
     let first = c.index-seated-0.result in
@@ -30,7 +30,7 @@ returns c =
     (omega (arith, c.if-books-lt2.false)) (c.is_none.ensures ∙ ap not c.if-is_none.false))
 
 pub returns-then-books-lt2 : goal.returns-then-books-lt2
-returns-then-books-lt2 c = c.in_ok-sheet.ensures ∙ no_changes c.args.naming.now.returns.now c.args.books.now (omega (arith, c.if-books-lt2.true))
+returns-then-books-lt2 c = c.in_ok-sheet.ensures ∙ no_changes c.args.returns.now c.args.books.now (omega (arith, c.if-books-lt2.true))
 
 pub returns-then-is_none : goal.returns-then-is_none
 returns-then-is_none c =
@@ -42,6 +42,6 @@ returns-then-is_none c =
     let all_heads : heads ≡ drop 1 books = take_all (length books - 1) (drop 1 books) (omega (arith, length-drop 1 books)) in
     c.in_ok-push_heads.ensures ∙ ap (λ t. with_columns t (map (λ j. string_bytes j.word) heads)) c.in_ok-sheet.ensures
     ∙ ap (λ js. with_columns blank_changes (map (λ j. string_bytes j.word) js)) all_heads
-    ∙ no_count c.args.naming.now.returns.now first.judged.now books
+    ∙ no_count c.args.returns.now first.judged.now books
     (first_book books seated first c.requires.books (slice_get-get_or seated 0 first (omega (arith, c.if-books-lt2.false, long, length-map seated (λ x. x.judged.now))) ∙ ap Some (sym c.index-seated-0.is)))
     (omega (arith, c.if-books-lt2.false)) (c.is_none.ensures ∙ ap not c.if-is_none.true)

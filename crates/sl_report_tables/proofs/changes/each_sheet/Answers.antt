@@ -14,7 +14,7 @@ use Rattle.sl_report_tables.proofs.changes.each_sheet.Goals as goal
 
 pub returns : goal.returns
 returns c =
-    let e = c.args.naming.now.returns.now in
+    let e = c.args.returns.now in
     let books = c.args.books.now in
     let seated = c.args.seated.now in
     let first = c.in-Some.first.now in

@@ -12,7 +12,7 @@ use Rattle.sl_report_tables.proofs.changes.push_books.Goals as goal
 
 pub loop-book-preserved : goal.loop-book-preserved
 loop-book-preserved c =
-    let e = c.args.naming.now.returns.now in
+    let e = c.args.returns.now in
     let books = c.args.books.now in
     let n = c.loop-book.book-index in
     let book = c.book-item.result in
@@ -21,7 +21,7 @@ loop-book-preserved c =
 
 pub returns : goal.returns
 returns c =
-    let e = c.args.naming.now.returns.now in
+    let e = c.args.returns.now in
     let books = c.args.books.now in
     let rows : Judged → List (List Content) = λ j. map (seats_row e c.args.first.now.judged.now j) (compared e) in
     rows_end (flat_map (λ x. rows x.judged.now)) books c.loop-book.book-index _ _ _ c.loop-book-test.false refl c.loop-book.invariant

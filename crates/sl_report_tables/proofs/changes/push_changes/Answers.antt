@@ -7,8 +7,8 @@ use Rattle.sl_report_tables.proofs.changes.push_changes.Goals as goal
 
 pub loop-party-preserved : goal.loop-party-preserved
 loop-party-preserved c =
-    rows_mapped (λ n. change_row c.args.naming.now.returns.now c.args.first.now.judged.now (books_of c.args.others.now) (Some n)) c.loop-party.party _ _ _ c.loop-party.invariant c.in_ok-push_change-2.ensures
+    rows_mapped (λ n. change_row c.args.returns.now c.args.first.now.judged.now (books_of c.args.others.now) (Some n)) c.loop-party.party _ _ _ c.loop-party.invariant c.in_ok-push_change-2.ensures
 
 pub returns : goal.returns
 returns c =
-    rows_compared (change_row c.args.naming.now.returns.now c.args.first.now.judged.now (books_of c.args.others.now)) (range_with_len 0 c.loop-party.party) _ _ _ c.in_ok-push_change.ensures c.loop-party.invariant ∙ search rules
+    rows_compared (change_row c.args.returns.now c.args.first.now.judged.now (books_of c.args.others.now)) (range_with_len 0 c.loop-party.party) _ _ _ c.in_ok-push_change.ensures c.loop-party.invariant ∙ search rules

@@ -10,7 +10,7 @@ use Rattle.sl_report_tables.proofs.changes.put_changes.Goals as goal
 pub returns : goal.returns
 returns c =
     let others = c.args.others.now in
-    let cell : Judged → Content = change_or_fault c.args.naming.now.returns.now c.args.party c.args.first.now.judged.now.counted in
+    let cell : Judged → Content = change_or_fault c.args.returns.now c.args.party c.args.first.now.judged.now.counted in
     c.loop-book.invariant
-    ∙ ap (λ ys. contents_of c.args.row.now.cells.items ++ map (λ x. cell x.judged.now) ys) (take_all c.loop-book.book-index others c.loop-book-test.false)
-    ∙ ap (λ ys. contents_of c.args.row.now.cells.items ++ ys) (mapped_books cell others)
+    ∙ ap (λ ys. contents_of c.args.row.now.items ++ map (λ x. cell x.judged.now) ys) (take_all c.loop-book.book-index others c.loop-book-test.false)
+    ∙ ap (λ ys. contents_of c.args.row.now.items ++ ys) (mapped_books cell others)

@@ -5,5 +5,5 @@ use Rattle.sl_report_tables.proofs.changes.put_changes.Given as goal
 
 abbrev pub invariant-loop-book : goal.invariant-loop-book
 invariant-loop-book l =
-    contents_of l.row.cells.items
-    ≡ contents_of l.initial.row.cells.items ++ map (λ x. change_or_fault l.naming.returns.now l.party l.first.judged.now.counted x.judged.now) (take l.book-index l.others)
+    contents_of l.row.items
+    ≡ contents_of l.initial.row.items ++ map (λ x. change_or_fault l.returns l.party l.first.judged.now.counted x.judged.now) (take l.book-index l.others)

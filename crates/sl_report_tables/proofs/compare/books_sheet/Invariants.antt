@@ -5,4 +5,4 @@ use Rattle.sl_report_tables.proofs.GrowingTables.{Grows}
 use Rattle.sl_report_tables.proofs.compare.books_sheet.Given as goal
 
 abbrev pub invariant-loop-number : goal.invariant-loop-number
-invariant-loop-number l = Grows (IsBookRow l.naming.returns.now) (take l.number l.books) (table_of l.initial.sheet) (table_of l.sheet)
+invariant-loop-number l = Grows (IsBookRow l.returns) (take l.number l.books) (table_of l.initial.sheet) (table_of l.sheet)

@@ -8,11 +8,11 @@ use Rattle.sl_report_tables.proofs.compare.fill_seats.Goals as goal
 
 pub loop-party-preserved : goal.loop-party-preserved
 loop-party-preserved c =
-    rows_mapped (λ n. compared_row c.args.naming.now.returns.now (books_of c.args.seated.now) (Some n)) c.loop-party.party _ _ _ c.loop-party.invariant c.in_ok-push_compared-2.ensures
+    rows_mapped (λ n. compared_row c.args.returns.now (books_of c.args.seated.now) (Some n)) c.loop-party.party _ _ _ c.loop-party.invariant c.in_ok-push_compared-2.ensures
 
 pub returns : goal.returns
 returns c =
-    let e = c.args.naming.now.returns.now in
+    let e = c.args.returns.now in
     let books = c.args.books.now in
     rows_compared (compared_row e (books_of c.args.seated.now)) (range_with_len 0 c.loop-party.party) _ _ _ c.in_ok-push_compared.ensures c.loop-party.invariant ∙ search rules
     ∙ ap (λ js. with_rows (table_of c.push_heads.new.sheet) (map (compared_row e js) (compared e))) c.requires.books

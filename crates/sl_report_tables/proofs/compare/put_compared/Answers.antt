@@ -9,5 +9,5 @@ pub returns : goal.returns
 returns c =
     let books = c.args.books.now in
     c.loop-book.invariant
-    ∙ ap (λ ys. contents_of c.args.row.now.cells.items ++ map (λ x. compared_cell c.args.naming.now.returns.now c.args.party x.judged.now) ys) (take_all c.loop-book.book-index books c.loop-book-test.false)
-    ∙ ap (λ ys. contents_of c.args.row.now.cells.items ++ ys) (mapped_books (compared_cell c.args.naming.now.returns.now c.args.party) books)
+    ∙ ap (λ ys. contents_of c.args.row.now.items ++ map (λ x. compared_cell c.args.returns.now c.args.party x.judged.now) ys) (take_all c.loop-book.book-index books c.loop-book-test.false)
+    ∙ ap (λ ys. contents_of c.args.row.now.items ++ ys) (mapped_books (compared_cell c.args.returns.now c.args.party) books)

@@ -5,4 +5,4 @@ use Rattle.sl_report_tables.specs.Compare.{list_seats_rows}
 use Rattle.sl_report_tables.proofs.lists_compared.list_seats_sheet.Given as goal
 
 abbrev pub invariant-loop-land : goal.invariant-loop-land
-invariant-loop-land l = table_of l.sheet ≡ with_rows (table_of l.initial.sheet) (flat_map (list_seats_rows l.naming.returns.now l.books) (range_with_len 0 l.land))
+invariant-loop-land l = table_of l.sheet ≡ with_rows (table_of l.initial.sheet) (flat_map (list_seats_rows l.returns l.books) (range_with_len 0 l.land))

@@ -7,4 +7,4 @@ use Rattle.sl_report_tables.proofs.lists_compared.push_lists.Given as goal
 abbrev pub invariant-loop-party : goal.invariant-loop-party
 invariant-loop-party l =
     table_of l.sheet
-    ≡ with_rows (table_of l.initial.sheet) (map (list_seats_row l.books l.land) (filter (has_seats l.naming.returns.now l.books l.land) (range_with_len 0 l.party)))
+    ≡ with_rows (table_of l.initial.sheet) (map (list_seats_row l.books l.land) (filter (has_seats l.returns l.books l.land) (range_with_len 0 l.party)))

@@ -6,6 +6,7 @@ use Rattle.sl_report_forms.specs.Cells.{Content}
 use Rattle.sl_report_forms.specs.Tables.{Table, with_rows}
 use Rattle.sl_report_forms.specs.declared.sheet.Sheet.{Sheet}
 use Rattle.sl_report_parties.specs.declared.earlier.EarlierParty.{EarlierParty}
+use Rattle.sl_law_meaning.specs.returns.Facts.{all_valid_votes}
 use Rattle.sl_report_tables.specs.Press.{gone_rows, press_row, press_table, sum_row}
 use Rattle.sl_report_tables.proofs.press.press_sheet.Goals as goal
 
@@ -23,14 +24,14 @@ ended P (Err f) s done then = tt
 
 pub returns : goal.returns
 returns c =
-    let e = c.args.naming.now.returns.now in
+    let e = c.args.setting.now.returns.now in
     let table = c.args.table.now in
     let earlier = option_map (λ (all : Bor (List EarlierParty)). all.now) c.args.earlier in
     rw c.and.ensures (
     ended _ c.push_sum.result c.push_sum.new.sheet c.push_sum.ensures (λ sum. (
       c.in_ok-found.found.items,
       c.in_ok-found.ensures,
-      rows_thrice _ _ _ _ _ (map (press_row e) c.as_slice.result.now) (gone_rows e earlier) (sum_row e table earlier ∷ []) c.in_ok-sheet.ensures
-          c.in_ok-push_each.ensures c.in_ok-push_gone_from.ensures sum
+      rows_thrice _ _ _ _ _ (map (press_row (all_valid_votes e)) c.as_slice.result.now) (gone_rows e earlier) (sum_row e table earlier ∷ []) c.in_ok-sheet.ensures
+          (rw c.all_votes-valid.ensures.valid at c.in_ok-push_each.ensures) c.in_ok-push_gone_from.ensures sum
           ∙ ap (press_table e table earlier) c.as_slice.ensures.value,
     )))

@@ -18,7 +18,7 @@ returns c =
     let earlier = option_map (λ (all : Bor (List EarlierParty)). all.now) c.args.earlier in
     let law = table_added _ _ _ (ap (map table_of) c.new-sheets.ensures.items) c.law_sheet.ensures c.in_ok-add_sheet.ensures in
     let press =
-    kind_added _ _ (λ t. (found : List Pressed) × ArePressed b.eligible.items table e earlier found × (t ≡ press_table c.args.naming.now.returns.now table earlier found))
+    kind_added _ _ (λ t. (found : List Pressed) × ArePressed b.eligible.items table e earlier found × (t ≡ press_table e table earlier found))
     law c.press_sheet.ensures c.in_ok-add_sheet-2.ensures in
     let whole = table_added _ _ _ press.2 c.whole_sheet.ensures c.in_ok-add_sheet-3.ensures in
     let lacking = kind_added _ _ (IsLackingTable b.eligible.items e) whole c.lacking_sheet.ensures c.in_ok-add_sheet-4.ensures in
@@ -32,8 +32,8 @@ returns c =
       lacks = lacking.1;
       tables_are =
           lacking.2
-          ∙ ap (λ t. law_table (house_of b e) (Some table) ∷ t ∷ scopes_table (filter is_whole c.as_slice.result.now) ∷ lacking.0 ∷ [])
-          (press.1.2 ∙ ap (λ r. press_table r table earlier found) c.requires.named)
-          ∙ ap (λ scopes. law_table (house_of b e) (Some table) ∷ press_table e table earlier found ∷ scopes_table (filter is_whole scopes) ∷ lacking.0 ∷ [])
+          ∙ ap (λ t. law_table b (house_of b e) (Some table) ∷ t ∷ scopes_table (filter is_whole c.as_slice.result.now) ∷ lacking.0 ∷ [])
+          press.1.2
+          ∙ ap (λ scopes. law_table b (house_of b e) (Some table) ∷ press_table e table earlier found ∷ scopes_table (filter is_whole scopes) ∷ lacking.0 ∷ [])
           c.as_slice.ensures.value;
     }

@@ -1,7 +1,6 @@
-use Rattle.std.proofs.Common.{[], ap, subst, ◌++◌, ◌∷◌, ℕ}
-use Rattle.sl_report_forms.specs.Cells.{a_number, known}
+use Rattle.std.proofs.Common.{refl, subst, ℕ}
 use Rattle.sl_report_parties.specs.Lacking.{AreVotesFor, Lacks}
-use Rattle.sl_report_tables.specs.Parts.{a_name, rounded_cell}
+use Rattle.sl_report_tables.specs.Press.{lacking_row}
 use Rattle.sl_report_tables.proofs.press.push_lacking.Goals as goal
 
 pub returns : goal.returns
@@ -9,13 +8,13 @@ returns c =
     let s = c.args.standing in
     let votes = c.lacking_votes.result in
     let winners = c.lacking_winners.result in (
-      _,
+      lacking_row c.args.returns.now s votes winners,
       record {
         votes = votes;
         winners = winners;
         lacks_votes = subst (λ (n : ℕ). Lacks (AreVotesFor s.part.votes.valid n) c.args.conditions.now s.part.met votes) c.all_votes-valid.ensures.valid c.lacking_votes.ensures;
         lacks_winners = c.lacking_winners.ensures;
-        row_is = ap (λ (n : ℕ). a_name ++ a_number s.part.votes.valid ∷ rounded_cell s.part.votes.valid n ∷ known votes ∷ known winners ∷ []) c.all_votes-valid.ensures.valid;
+        row_is = refl;
       },
-      c.in_ok-push_row.ensures,
+      rw (c.in_ok-vec.ensures.items, c.name.ensures, c.rounded.ensures, c.known.ensures, c.known-2.ensures, c.all_votes-valid.ensures.valid) at c.in_ok-push.ensures,
     )

@@ -7,11 +7,11 @@ use Rattle.sl_report_tables.proofs.scopes.entries_sheet.Goals as goal
 pub loop-entry-preserved : goal.loop-entry-preserved
 loop-entry-preserved c =
     let entries = c.deref-entry-items.result.now in
-    rows_next (entry_row c.args.scoped.now.has_minima) entries c.loop-entry.entry-index _ _ _ _
+    rows_next (entry_row c.args.scoped.now) entries c.loop-entry.entry-index _ _ _ _
     (slice_get-get_or entries c.loop-entry.entry-index _ c.loop-entry-test.true) c.loop-entry.invariant c.in_ok-push_entry.ensures
 
 pub returns : goal.returns
 returns c =
     let s = c.args.scoped.now in
-    rows_end (map (entry_row s.has_minima)) c.deref-entry-items.result.now c.loop-entry.entry-index _ _ _ c.loop-entry-test.false c.in_ok-sheet.ensures c.loop-entry.invariant
-    ∙ ap (λ entries. record (entries_table s) { rows = map (entry_row s.has_minima) entries }) c.deref-entry-items.ensures.value
+    rows_end (map (entry_row s)) c.deref-entry-items.result.now c.loop-entry.entry-index _ _ _ c.loop-entry-test.false c.in_ok-sheet.ensures c.loop-entry.invariant
+    ∙ ap (λ entries. record (entries_table s) { rows = map (entry_row s) entries }) c.deref-entry-items.ensures.value

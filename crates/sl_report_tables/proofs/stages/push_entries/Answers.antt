@@ -7,4 +7,4 @@ pub loop-entry-preserved : goal.loop-entry-preserved
 loop-entry-preserved c =
     let xs = c.deref-entry-items.result.now in
     let n = c.loop-entry.entry-index in
-    rows_next (cell_row c.args.naming.now.returns.now c.args.column.now) xs n _ _ _ _ (slice_get-get_or xs n _ c.loop-entry-test.true) c.loop-entry.invariant c.in_ok-push_entry.ensures
+    rows_next (cell_row c.args.returns.now c.args.stage c.args.column.now) xs n _ _ _ _ (slice_get-get_or xs n _ c.loop-entry-test.true) c.loop-entry.invariant c.in_ok-push_entry.ensures

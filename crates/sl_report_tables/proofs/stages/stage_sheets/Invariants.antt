@@ -1,7 +1,9 @@
 use Rattle.std.proofs.Common.{map, take, ◌∷◌, ◌≡◌}
-use Rattle.sl_report_forms.specs.Tables.{table_of}
-use Rattle.sl_report_tables.specs.Stages.{cells_table, stages_table}
+use Rattle.std.specs.List.{enumerate_from}
+use Rattle.sl_report_forms.specs.Tables.{Table, table_of}
+use Rattle.sl_report_tables.specs.Stages.{IsStagesTable, cells_table}
 use Rattle.sl_report_tables.proofs.stages.stage_sheets.Given as goal
 
-abbrev pub invariant-loop-number : goal.invariant-loop-number
-invariant-loop-number l = map table_of l.sheets.items ≡ stages_table l.columns ∷ map (cells_table l.naming.returns.now) (take l.number l.columns)
+abbrev pub invariant-loop-stage : goal.invariant-loop-stage
+invariant-loop-stage l =
+    (stages : Table) × IsStagesTable l.columns stages × (map table_of l.sheets.items ≡ stages ∷ map (cells_table l.returns) (take l.stage (enumerate_from 0 l.columns)))

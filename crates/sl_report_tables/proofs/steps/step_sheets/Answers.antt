@@ -1,4 +1,4 @@
-use Rattle.std.proofs.Common.{ap, append_assoc, map, ◌∙◌, ◌++◌, ◌∷◌, []}
+use Rattle.std.proofs.Common.{ap, map, ◌∙◌, ◌++◌, ◌∷◌, []}
 use Rattle.sl_report_forms.specs.Tables.{table_of}
 use Rattle.sl_report_tables.specs.Reports.{seat_tables}
 use Rattle.sl_report_tables.specs.Steps.{bounds_table, steps_table}

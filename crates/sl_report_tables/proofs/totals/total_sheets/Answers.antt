@@ -8,7 +8,7 @@ use Rattle.sl_report_tables.proofs.totals.total_sheets.Goals as goal
 
 pub returns : goal.returns
 returns c =
-    let e = c.args.naming.now.returns.now in
+    let e = c.args.returns.now in
     let totals = table_added _ _ _ (ap (map table_of) c.new-sheets.ensures.items) c.totals_sheet.ensures c.in_ok-add_sheet.ensures in
     let votes = kind_added _ _ (IsVotesTable c.conditions_of-conditions.result.now e) totals c.votes_sheet.ensures c.in_ok-add_sheet-2.ensures in
     let lands = table_added _ _ _ votes.2 c.lands_sheet.ensures c.in_ok-add_sheet-3.ensures in

@@ -9,16 +9,16 @@ use Rattle.sl_report_tables.proofs.totals.votes_sheet.Goals as goal
 pub index-part-requires : goal.index-part-requires
 index-part-requires c =
     let parts = c.in_ok-parts.parts.items in
-    omega (arith, parts_long c.args.conditions.now c.args.naming.now.returns.now parts parts refl c.in_ok-parts.ensures, c.loop-party-test.true, c.parties-party-end.ensures.number)
+    omega (arith, parts_long c.args.conditions.now c.args.returns.now parts parts refl c.in_ok-parts.ensures, c.loop-party-test.true, c.parties-party-end.ensures.number)
 
 pub push_party-requires-clause-part : goal.push_party-requires-clause-part
 push_party-requires-clause-part c =
-    let e = c.args.naming.now.returns.now in
+    let e = c.args.returns.now in
     let parts = c.in_ok-parts.parts.items in
     let within : c.loop-party.party < parties_of e = omega (arith, c.loop-party-test.true, c.parties-party-end.ensures.number) in
     c.index-part.ensures ∙ part_at c.args.conditions.now e parts parts refl c.in_ok-parts.ensures c.loop-party.party c.index-part.result.now within
 
 pub loop-party-preserved : goal.loop-party-preserved
 loop-party-preserved c =
-    grows_more (IsVotesRow c.args.conditions.now c.args.naming.now.returns.now) c.loop-party.party (table_of c.in_ok-sheet.sheet)
+    grows_more (IsVotesRow c.args.conditions.now c.args.returns.now) c.loop-party.party (table_of c.in_ok-sheet.sheet)
     (table_of c.loop-party.sheet) (table_of c.push_party.new.sheet) c.loop-party.invariant c.in_ok-push_party.ensures

@@ -3,4 +3,4 @@ use Rattle.sl_explain_texts.proofs.speaker.Speaker.explains.Given as goal
 
 -- the remedies leave the code
 abbrev pub invariant-loop-remedy : goal.invariant-loop-remedy
-invariant-loop-remedy l = l.explanation.code ≡ Some l.sentence.code
+invariant-loop-remedy l = l.explanation.code ≡ Some l.sentence.0

@@ -1,0 +1,15 @@
+use Rattle.sl_report_tables.proofs.scopes.push_entry.Goals as goal
+
+pub returns : goal.returns
+returns c =
+    rw (
+      c.in_ok-vec.ensures.items,
+      c.land_side.ensures,
+      c.party_side.ensures,
+      c.fraction.ensures,
+      c.fraction_exact.ensures,
+      c.minimum.ensures,
+      c.known.ensures,
+      c.known_flag.ensures,
+      c.known-2.ensures,
+    ) at c.push.ensures
