@@ -18,7 +18,7 @@ from repository import CRATES, EXAMPLES, TOP  # noqa: E402
 
 TABLES, SCHEMA = CRATES / "sl_report_tables", TOP / "docs" / "report.schema.json"
 FORMS = re.compile(r"(pub\(crate\) )?const (\w+): \[ColumnForm; \d+\] = \[(.*?)\];", re.S)
-# A sheet: its key, its title, and its columns; the sheets of winners have one title and one place each.
+# A sheet: its key, its title, and its columns; those of winners by their places have one place each.
 SHEET = re.compile(r'"(\w+)",\s*\w+,\s*(?:&(\w+)|Placed::)')
 
 # What a cell of a definition holds, by the word that it begins with; each other one is a text.
@@ -40,7 +40,6 @@ CELLS = {
     "claimants_cell": "names_or_none",
     **dict.fromkeys(["party_cell", "land_side", "party_side", "condition_cell", "tied", "fault_cell", "differs"], "text_or_none"),
     "tied_seats": "count_or_none",
-    "if": "count_or_none",
 }
 # Cells that stand together in several rows.
 GROUPS = {"seat_cells": ["count_or_none"] * 3, "compared_name": ["text_or_none", "text"]}
@@ -93,11 +92,12 @@ def sheets():
     """The columns of each table, as the sheets have them. Columns are those of the file, or those that another file shares."""
     texts = [path.read_text(encoding="utf-8") for path in sorted((TABLES / "src").glob("*.rt"))]
     shared = {name: rows for text in texts for is_shared, name, rows in FORMS.findall(text) if is_shared}
+    placed = dict((name, rows) for text in texts if "fn placed_sheet" in text for _, name, rows in FORMS.findall(text))["WINNERS"]
     tables = {}
     for text in texts:
         forms = {**shared, **{name: rows for _, name, rows in FORMS.findall(text)}}
         for key, name in SHEET.findall(text):
-            tables[key] = re.findall(r'\(\s*"(\w+)"', forms[name or "WINNERS"])
+            tables[key] = re.findall(r'\(\s*"(\w+)"', forms[name] if name else placed)
     return tables
 
 

@@ -85,22 +85,6 @@ fn fraction_text(alloc: Global, num: u128, den: u128) -> Result<String, NoMemory
     Ok(format!(in alloc; "{num}/{den}")?)
 }
 
-// The names of claimants in a scope: short ones for a program, and for a person those that are seen there.
-fn claimants_text(
-    alloc: Global,
-    names: &Names,
-    reader: Reader,
-    entries: &[Item],
-    scope: Scope,
-) -> Result<String, NoMemory>
-    ensures { IfOk result (λ t. string_bytes t ≡ spec.claimants_text reader names.now entries.now scope) }
-{
-    match reader {
-        Reader::Program => names.list(alloc, Length::Short, Scope::All, entries, " "),
-        Reader::Person => names.list(alloc, Length::Full, scope, entries, ", "),
-    }
-}
-
 impl Cell {
     /// A number, or an empty cell.
     pub fn known(number: Option<u64>) -> Cell
@@ -154,9 +138,10 @@ impl Cell {
             Cell::Entries(entries) => {
                 names.list(alloc, Length::Short, Scope::All, entries.as_slice(), " ")
             }
-            Cell::Claimants(entries, scope) => {
-                claimants_text(alloc, names, reader, entries.as_slice(), *scope)
-            }
+            Cell::Claimants(entries, scope) => match reader {
+                Reader::Program => names.list(alloc, Length::Short, Scope::All, entries, " "),
+                Reader::Person => names.list(alloc, Length::Full, *scope, entries, ", "),
+            },
             Cell::Scope(scope) => names.scope(alloc, *scope),
             Cell::ScopeName(scope) => names.scope_name(alloc, language, *scope),
         }

@@ -68,12 +68,7 @@ fn put_rows(
 fn has_key(sheets: &[Sheet], key: &str) -> bool
     ensures { result ≡ list_any (spec.has_key key.now) sheets.now }
 {
-    for sheet in sheets {
-        if sheet.key == key {
-            return true;
-        }
-    }
-    false
+    sheets.iter().any(|sheet| sheet.key == key)
 }
 
 // Adds a sheet that stands after these ones, with its heads where it is the first one of its key.

@@ -1,8 +1,8 @@
 //! Sheets of rows, and their forms: aligned text, Markdown, HTML, comma-separated values, and JSON.
 //!
-//! Stands on `sl_explain_texts`, `sl_law_margins` and `sl_law_meaning`; used by the rooms report and terminal. Proved: what stands in the cells of each row; the
-//! text of a cell as a program and as a person read it, by the names of what is numbered; CSV and JSON, in which `csv` and `serde_json` read again what was
-//! written; Markdown, HTML and aligned text, byte for byte; and the digest of an input. Only tested: the title of a command in
+//! Stands on `sl_explain_texts` and `sl_law_margins`; used by the rooms report and terminal. Proved: what stands in the cells of each row; the
+//! text of a cell as a program and as a person read it, by the names of what is numbered; CSV and JSON, in which `csv` and `serde_json` read
+//! again what was written; Markdown, HTML and aligned text, byte for byte; and the digest of an input. Only tested: the title of a command in
 //! HTML, and the words of an explanation in JSON.
 //!
 //! Where an error is `NoMemory` alone, memory ran out, and nothing else is wrong.

@@ -1,4 +1,5 @@
 -- The tables of scopes, and of the entries of each (docs/report.md).
+use Rattle.std.specs.Bool.{then_some}
 use Rattle.std.specs.Prelude.{ℕ, ◌==◌, List, [], ◌∷◌, Option, Some, None, codes, filter_map, is_some, map, option_map, slice_get, if◌then◌else◌}
 use Rattle.sl_base_quotients.specs.Quotient.{Quotient}
 use Rattle.sl_report_forms.specs.Cells.{Content, a_decimal, a_flag, a_fraction, a_name, a_number, a_scope, a_scope_name, a_stage, a_word, an_entry, claimants, known, known_decimal, known_flag, nothing}
@@ -55,7 +56,7 @@ abbrev pub entry_row : Scoped → Entry → List Content
 entry_row s x =
     a_stage s.stage ∷ a_scope s.scope ∷ an_entry x.item ∷ a_name x.item s.scope ∷ land_side x.item ∷ party_side x.item
     ∷ a_number x.weight ∷ fraction_cell x.quotient ∷ fraction_exact_cell x.quotient
-    ∷ a_number x.seats ∷ (if s.has_minima then a_number x.minimum else nothing) ∷ known x.missing ∷ known_flag x.lot ∷ known x.place ∷ []
+    ∷ a_number x.seats ∷ known (then_some s.has_minima x.minimum) ∷ known x.missing ∷ known_flag x.lot ∷ known x.place ∷ []
 
 abbrev pub entries_table : Scoped → Table
 entries_table s = record {

@@ -12,15 +12,15 @@ ghost use Rattle.sl_law_meaning.specs.meaning.Counts.{HoldsStages};
 
 use crate::covering::covering_sheet;
 use crate::naming::{owned, text_of};
-use crate::parties::{lists_sheet, open_sheet, parties_sheet, singles_sheet};
+use crate::parties::{lists_sheet, parties_sheet, placed_sheet};
 use crate::rows::{ColumnForm, add_sheet, one_row_sheet};
 use crate::scopes::{entries_sheet, scopes_sheet};
-use crate::texts::LAW_TITLE;
+use crate::texts::{LAW_TITLE, OPEN_TITLE, SINGLES_TITLE};
 use sl_base_quotients::NoMemory;
 use sl_report_forms::{Cell, Look, Names, Sheet};
 use sl_report_parties::{Seats, Setting, seats_in_all};
 use sl_report_results::{Counted, Scoped, stage_scopes};
-use sl_stages::{Returns, Table};
+use sl_stages::{Placed, Returns, Table};
 use std::alloc::Global;
 
 const LAW: [ColumnForm; 5] = [
@@ -105,8 +105,26 @@ pub(crate) fn push_places(
 ) -> Result<(), NoMemory>
     ensures { OnOk result (map table_of sheets.new.items ≡ map table_of sheets.old.items ++ place_tables returns.now table.now) }
 {
-    add_sheet(sheets, singles_sheet(alloc, returns, names, table))?;
-    add_sheet(sheets, open_sheet(alloc, returns, names, table))?;
+    let singles = placed_sheet(
+        alloc,
+        returns,
+        names,
+        table,
+        "singles",
+        SINGLES_TITLE,
+        Placed::Single,
+    );
+    add_sheet(sheets, singles)?;
+    let open = placed_sheet(
+        alloc,
+        returns,
+        names,
+        table,
+        "open",
+        OPEN_TITLE,
+        Placed::Unseated,
+    );
+    add_sheet(sheets, open)?;
     Ok(())
 }
 

@@ -87,12 +87,7 @@ fn gives_seats(local: &Local<'_>, party: usize) -> bool
 fn is_given(locals: &[Local<'_>], party: usize) -> bool
     ensures { result ≡ list_any (λ x. gives_seats x.land party x.judged.now) locals.now }
 {
-    for local in locals {
-        if gives_seats(local, party) {
-            return true;
-        }
-    }
-    false
+    locals.iter().any(|local| gives_seats(local, party))
 }
 
 // Whether the list has seats by one of the books, which stand beside their lines in the Land.

@@ -3,13 +3,13 @@
 ghost use Rattle.std.specs.Prelude.{◌≡◌, ◌<◌, ◌∷◌, [], IfOk, OnOk, Some, if◌then◌else◌, length, option_map, slice_get};
 ghost use Rattle.sl_report_forms.specs.Tables.{table_of, with_rows};
 ghost use Rattle.sl_report_parties.specs.Seats.{party_seats};
-ghost use Rattle.sl_report_tables.specs.Parties.{has_place, is_shown_list, list_row, lists_table, open_table, parties_table, party_row, placed_table, singles_table, winner_row};
+ghost use Rattle.sl_report_tables.specs.Parties.{has_place, is_shown_list, list_row, lists_table, parties_table, party_row, placed_table, winner_row};
 ghost use Rattle.sl_report_tables.specs.inner.SeatsBy.{seats_by};
 ghost use Rattle.sl_law_meaning.specs.returns.Election.{lands_of, parties_of};
 ghost use Rattle.sl_law_meaning.specs.returns.Facts.{all_valid_votes};
 
 use crate::rows::{ColumnForm, condition, name, party, party_name, percent, percent_exact, titled};
-use crate::texts::{LISTS_TITLE, NO_PARTY, OPEN_TITLE, PARTIES_TITLE, SINGLES_TITLE};
+use crate::texts::{LISTS_TITLE, NO_PARTY, PARTIES_TITLE};
 use sl_base_quotients::NoMemory;
 use sl_explain_texts::Message;
 use sl_report_forms::{Cell, Look, Names, Sheet};
@@ -243,8 +243,8 @@ fn place_at(placed: &[Placed], number: usize) -> Placed
     placed[number]
 }
 
-// The winners who sit there, under a key and a title.
-fn placed_sheet(
+/// The winners who sit there, under a key and a title.
+pub(crate) fn placed_sheet(
     alloc: Global,
     returns: &Returns,
     names: &Names,
@@ -263,44 +263,4 @@ fn placed_sheet(
         push_winner(alloc, &mut sheet, number, win, wanted, place)?;
     }
     Ok(sheet)
-}
-
-/// The winners who sit by themselves.
-pub(crate) fn singles_sheet(
-    alloc: Global,
-    returns: &Returns,
-    names: &Names,
-    table: &Table,
-) -> Result<Sheet, NoMemory>
-    ensures { IfOk result (λ s. table_of s ≡ singles_table returns.now table.now) }
-{
-    placed_sheet(
-        alloc,
-        returns,
-        names,
-        table,
-        "singles",
-        SINGLES_TITLE,
-        Placed::Single,
-    )
-}
-
-/// The constituencies whose winners are not seated.
-pub(crate) fn open_sheet(
-    alloc: Global,
-    returns: &Returns,
-    names: &Names,
-    table: &Table,
-) -> Result<Sheet, NoMemory>
-    ensures { IfOk result (λ s. table_of s ≡ open_table returns.now table.now) }
-{
-    placed_sheet(
-        alloc,
-        returns,
-        names,
-        table,
-        "open",
-        OPEN_TITLE,
-        Placed::Unseated,
-    )
 }

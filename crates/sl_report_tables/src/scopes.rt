@@ -145,17 +145,6 @@ pub(crate) fn scopes_sheet(
     Ok(sheet)
 }
 
-// The minimum of an entry, where there are some.
-fn minimum(has_minima: bool, minimum: u64) -> Cell
-    ensures { content_of result ≡ (if has_minima then a_number minimum else nothing) }
-{
-    if has_minima {
-        Cell::Number(minimum)
-    } else {
-        Cell::Empty
-    }
-}
-
 // Adds the row of an entry of a scope.
 fn push_entry(
     alloc: Global,
@@ -176,7 +165,7 @@ fn push_entry(
         fraction(entry.quotient),
         fraction_exact(entry.quotient),
         Cell::Number(entry.seats),
-        minimum(scoped.has_minima, entry.minimum),
+        Cell::known(scoped.has_minima.then_some(entry.minimum)),
         Cell::known(entry.missing),
         Cell::known_flag(entry.lot),
         Cell::known(entry.place),

@@ -34,12 +34,8 @@ const CELLS: [ColumnForm; 4] = [
 
 /// The number of the stage of that name, if there is one.
 pub(crate) fn stage_number(book: &Book, name: &[u8]) -> Option<usize> {
-    for (number, stage) in book.stages.iter().enumerate() {
-        if stage.name.as_bytes() == name {
-            return Some(number);
-        }
-    }
-    None
+    let mut stages = book.stages.iter();
+    stages.position(|stage| stage.name.as_bytes() == name)
 }
 
 // Adds the row of a stage.

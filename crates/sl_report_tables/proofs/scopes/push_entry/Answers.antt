@@ -8,8 +8,9 @@ returns c =
       c.party_side.ensures,
       c.fraction.ensures,
       c.fraction_exact.ensures,
-      c.minimum.ensures,
       c.known.ensures,
-      c.known_flag.ensures,
+      c.then_some.ensures,
       c.known-2.ensures,
+      c.known_flag.ensures,
+      c.known-3.ensures,
     ) at c.push.ensures
