@@ -1,30 +1,24 @@
-//! The further clauses of a rulebook that are refused, in a line each.
+//! Explains the first test that a rulebook fails, with the further clauses that are refused, in a line each.
 
-ghost use Rattle.std.specs.Prelude.{[], ◌++◌, ◌∷◌, ◌≡◌, IfOk, List, OnOk};
+ghost use Rattle.std.specs.Prelude.{[], ◌++◌, ◌∷◌, ◌≡◌, IfOk, List, OnOk, Some};
+ghost use Rattle.sl_explain_books.specs.Codes.{test_code};
 ghost use Rattle.sl_explain_books.specs.Further.{Tells, TellsAll};
+ghost use Rattle.sl_explain_texts.specs.Explainers.{Keeps};
 ghost use Rattle.sl_law_meaning.specs.book.Books.{book_of};
 ghost use Rattle.sl_law_meaning.specs.declared.check_fault.CheckFault.{CheckFault};
 
 use crate::clause::Clause;
 use crate::left_out::without;
-use crate::pieces::line_number;
-use crate::tests::explain_fault;
+use crate::tests::Written;
 use crate::texts::further::{ALSO, LINE, MORE};
 use sl_base_quotients::NoMemory;
 use sl_check::check;
-use sl_explain_texts::{Explanation, Speaker};
+use sl_explain_texts::{Explainer, Explanation, Language, Speaker};
 use sl_law_meaning::{Book, CheckFault};
+use std::alloc::Global;
 
 /// How many of the further clauses that are refused have a line.
 pub const MAX_FURTHER: usize = 20;
-
-// A refused rulebook, as it was written.
-#[derive(Clone, Copy)]
-struct Written<'a> {
-    speaker: Speaker,
-    text: &'a [u8],
-    book: &'a Book,
-}
 
 // The lines of further clauses, and how many have none.
 #[derive(Drop)]
@@ -33,19 +27,17 @@ pub struct Further {
     more: u64,
 }
 
-impl Written<'_> {
-    // The line of a fault of what is left of the rulebook: what its own explanation says of it first. Names are sought in the whole rulebook.
-    fn line(&self, left: &Book, fault: CheckFault) -> Result<Vec<u8>, NoMemory> {
-        let book = match fault {
-            CheckFault::StageUnknown(_) => self.book,
-            _ => left,
-        };
-        let own = explain_fault(self.speaker, self.text, book, fault)?;
-        let place = own.span().map_or(0, |span| span.start);
-        let number = self.speaker.number(line_number(self.text, place))?;
-        self.speaker
-            .text(&LINE, &[number.as_slice(), own.sentence()])
-    }
+// The line of a fault of what is left of a rulebook: what its own explanation says of it first. Names are sought in the whole rulebook.
+fn line_of(written: &Written<'_>, left: &Book, fault: CheckFault) -> Result<Vec<u8>, NoMemory> {
+    let book = match fault {
+        CheckFault::StageUnknown(_) => written.book,
+        _ => left,
+    };
+    let own = Written { book, ..*written }.explain(fault)?.finished()?;
+    let line = written.line(own.span().map_or(0, |span| span.start))?;
+    written
+        .speaker
+        .text(&LINE, &[line.as_slice(), own.sentence()])
 }
 
 impl Further {
@@ -54,7 +46,7 @@ impl Further {
         ensures { (fs : List CheckFault) → Tells self.old fs → OnOk result (Tells self.new (fs ++ fault ∷ [])) }
     {
         if self.lines.len() < MAX_FURTHER {
-            self.lines.push(written.line(left, fault)?)?;
+            self.lines.push(line_of(written, left, fault)?)?;
         } else {
             // no text in memory has so many clauses
             self.more = self.more.checked_add(1).ok_or(NoMemory)?;
@@ -86,38 +78,39 @@ impl Further {
     }
 
     // Writes them after an explanation. Nothing where there are none.
-    fn write(self, speaker: Speaker, explanation: &mut Explanation) -> Result<(), NoMemory>
-        ensures { explanation.new.code ≡ explanation.old.code }
+    fn write(self, explainer: &mut Explainer)
+        ensures { Keeps explainer.old explainer.new }
     {
-        if self.lines.is_empty() {
-            return Ok(());
+        let speaker = explainer.speaker();
+        if !self.lines.is_empty() {
+            explainer.line(speaker.text(&ALSO, &[]));
         }
-        explanation.line(speaker.text(&ALSO, &[])?)?;
         for line in self.lines {
-            explanation.line(line)?;
+            explainer.line(Ok(line));
         }
-        if self.more == 0 {
-            return Ok(());
+        if self.more > 0 {
+            explainer.line(speaker.text_with(&MORE, speaker.number(self.more as usize)));
         }
-        let number = speaker.number(self.more as usize)?;
-        explanation.line(speaker.text(&MORE, &[number.as_slice()])?)
     }
 }
 
-/// Adds the further clauses of a rulebook that are refused, each left out for those after it, and how many more there are.
-pub fn add_further(
-    speaker: Speaker,
+/// Explains the first test that the rulebook of a text fails, and says which further ones it fails, each clause with a fault left out for those
+/// after it, and how many more there are.
+pub fn explain_test(
+    alloc: Global,
+    language: Language,
     text: &[u8],
     book: &Book,
     fault: CheckFault,
-    explanation: &mut Explanation,
-) -> Result<(), NoMemory>
-    ensures { explanation.new.code ≡ explanation.old.code }
+) -> Result<Explanation, NoMemory>
+    ensures { IfOk result (λ x. x.code ≡ Some (test_code fault)) }
 {
     let written = Written {
-        speaker,
+        speaker: Speaker { alloc, language },
         text,
         book,
     };
-    Further::of(&written, fault)?.write(speaker, explanation)
+    let mut explainer = written.explain(fault)?;
+    Further::of(&written, fault)?.write(&mut explainer);
+    explainer.finished()
 }

@@ -1,6 +1,8 @@
 //! Why tokens are no rulebook, explained.
 
 ghost use Rattle.std.specs.Prelude.{◌≡◌, IfOk, Some};
+ghost use Rattle.sl_explain_texts.specs.Explainers.{Keeps};
+ghost use Rattle.sl_explain_texts.specs.Messages.{IsFilledBy};
 ghost use Rattle.sl_explain_texts.specs.declared.code.FaultCode.TheVariants.{B07, B10};
 ghost use Rattle.sl_explain_books.specs.Codes.{grammar_code};
 
@@ -12,17 +14,14 @@ use crate::beginning::Sort;
 use crate::meant::{is_droop, keyword_of, method_of};
 use crate::near::help_nearest_or;
 use crate::pieces::{line_number, piece, span_within, token_span};
-use crate::texts::grammar::{
-    AFTER, AFTER_BOOK, AFTER_OTHER, AFTER_STAGE, DOUBLE, ENDED, FORMS_EXPLAINED, FOUND, NO_CLAUSE,
-    NO_FORM, NO_SEMICOLON, RESERVED, SEMICOLON, SURPLUS,
-};
+use crate::texts::grammar as texts;
 use crate::texts::meant::{METHOD, NO_METHOD};
 use crate::whole::explain_whole;
 use contexts::remedy;
 use going_on::{expected, listed, words};
 use limits::{explain_depth, explain_no_room, explain_stages};
 use sl_base_quotients::NoMemory;
-use sl_explain_texts::{Explanation, FaultCode, Language, Message, Span, Speaker};
+use sl_explain_texts::{Explainer, Explanation, FaultCode, Language, Message, Speaker};
 use sl_lex::{Keyword, Kind, Mark, Token};
 use sl_parse::ParseFault;
 use std::alloc::Global;
@@ -32,23 +31,13 @@ const FORM_WORDS: [&[u8]; 5] = [b"sum", b"larger", b"less", b"split", b"grow"];
 
 // The last token that ends before an offset or at it.
 fn token_before(tokens: &[Token], at: usize) -> Option<Token> {
-    let mut found = None;
-    for token in tokens {
-        if token.end <= at {
-            found = Some(*token);
-        }
-    }
-    found
+    let mut behind = tokens.iter().copied().rev();
+    behind.find(|token| token.end <= at)
 }
 
 // The token that begins at an offset.
 fn token_from(tokens: &[Token], at: usize) -> Option<Token> {
     tokens.iter().copied().find(|token| token.start == at)
-}
-
-// Whether a name may stand there, and nothing else.
-fn is_name_alone(sorts: &[Sort]) -> bool {
-    sorts == [Sort::Name].as_slice()
 }
 
 // A place at which the book does not go on, and the sorts of tokens with which it may.
@@ -66,21 +55,24 @@ impl<'a> Place<'a> {
     }
 
     // The text ends too early.
-    fn explain_end(&self, before: Option<Token>) -> Result<Explanation, NoMemory>
+    fn explain_end(&self, before: Option<Token>) -> Result<Explainer, NoMemory>
         ensures { IfOk result (λ x. x.code ≡ Some B07) }
     {
         let remedy = remedy(self.sorts);
         let Some(before) = before else {
             let span = span_within(self.text, 0, 0);
-            return self.speaker.explains_at(&NO_CLAUSE, &[], span, &[remedy]);
+            let explainer = self.speaker.says_at(&texts::NO_CLAUSE, &[], span);
+            return Ok(explainer.helped(remedy, &[]));
         };
         if self.takes(Mark::Semicolon) {
-            return self.explain_semicolon(before);
+            return Ok(self.explain_semicolon(before));
         }
         let list = listed(self.speaker, self.sorts)?;
         let span = span_within(self.text, before.end, before.end);
-        self.speaker
-            .explains_at(&ENDED, &[list.as_slice()], span, &[remedy])
+        let explainer = self
+            .speaker
+            .says_at(&texts::ENDED, &[list.as_slice()], span);
+        Ok(explainer.helped(remedy, &[]))
     }
 
     // Whether a `;` is missing before a word: a new clause begins, or a new line.
@@ -99,14 +91,15 @@ impl<'a> Place<'a> {
         }
     }
 
-    fn explain_semicolon(&self, before: Token) -> Result<Explanation, NoMemory>
-        ensures { IfOk result (λ x. x.code ≡ Some B07) }
+    // A `;` is missing after a token.
+    fn explain_semicolon(&self, before: Token) -> Explainer
+        ensures { result.code ≡ Some B07 }
     {
         let word = piece(self.text, span_within(self.text, before.start, before.end));
-        let word = self.speaker.shown(word)?;
         let span = span_within(self.text, before.end, before.end);
         self.speaker
-            .explains_at(&NO_SEMICOLON, &[word.as_slice()], span, &[&SEMICOLON])
+            .says_at(&texts::NO_SEMICOLON, &[word], span)
+            .helped(&texts::SEMICOLON, &[])
     }
 
     // Whether a name stands before a `(` as if it were a form.
@@ -116,123 +109,76 @@ impl<'a> Place<'a> {
             && (self.takes(Mark::Semicolon) || self.takes(Mark::Comma) || self.takes(Mark::Close))
     }
 
-    fn explain_form(&self, before: Token) -> Result<Explanation, NoMemory>
+    // A name stands there as if it were a form.
+    fn explain_form(&self, before: Token) -> Result<Explainer, NoMemory>
         ensures { IfOk result (λ x. x.code ≡ Some B07) }
     {
         let span = span_within(self.text, before.start, before.end);
         let word = piece(self.text, span);
-        let mut explanation = self.speaker.says_at(&NO_FORM, &[word], span)?;
-        help_nearest_or(
-            self.speaker,
-            &mut explanation,
-            word,
-            &FORM_WORDS,
-            &FORMS_EXPLAINED,
-        )?;
-        Ok(explanation)
+        let mut explainer = self.speaker.says_at(&texts::NO_FORM, &[word], span);
+        help_nearest_or(&mut explainer, word, &FORM_WORDS, &texts::FORMS_EXPLAINED)?;
+        Ok(explainer)
     }
 
     // What to write in place of a token.
-    fn found_remedy(&self, before: Option<Token>, kind: Kind) -> &'static Message {
-        let is_after_end = match before {
-            Some(before) => before.kind == Kind::Mark(Mark::Semicolon),
-            None => false,
-        };
+    fn found_remedy(&self, before: Option<Token>, kind: Kind) -> &'static Message
+        ensures { IsFilledBy result.now 0 }
+    {
+        let is_after_end = before.is_some_and(|token| token.kind == Kind::Mark(Mark::Semicolon));
         if kind == Kind::Mark(Mark::Close) && self.takes(Mark::Semicolon) {
-            &SURPLUS
+            &texts::SURPLUS
         } else if kind == Kind::Mark(Mark::Semicolon) && is_after_end {
-            &DOUBLE
+            &texts::DOUBLE
         } else {
             remedy(self.sorts)
         }
     }
 
-    // What stands there, and what is expected.
-    fn say_found(&self, word: &[u8], span: Span) -> Result<Explanation, NoMemory>
-        ensures { IfOk result (λ x. x.code ≡ Some B07) }
-    {
-        let found = self.speaker.shown(word)?;
-        let list = listed(self.speaker, self.sorts)?;
-        let values = [found.as_slice(), list.as_slice()];
-        self.speaker.says_at(&FOUND, &values, span)
-    }
-
-    // Says what is meant by a word that is none of the language: a method by another name, or another word that may stand there.
+    // Says what is meant by a word that is none of the language: a method by another name, or another word that may stand there, or is near.
     fn help_word(
         &self,
-        explanation: &mut Explanation,
+        explainer: &mut Explainer,
         word: &[u8],
-        keywords: &[&'static [u8]],
         remedy: &Message,
     ) -> Result<(), NoMemory>
-        ensures { explanation.new.code ≡ explanation.old.code }
+        requires { IsFilledBy remedy.now 0 }
+        ensures { Keeps explainer.old explainer.new }
     {
+        let keywords = words(self.speaker.alloc, self.sorts)?;
         let takes_method = keywords.contains(&b"webster".as_slice());
-        if takes_method && is_droop(word) {
-            return self.speaker.helps(explanation, &NO_METHOD, &[]);
+        match (method_of(word), keyword_of(word)) {
+            _ if takes_method && is_droop(word) => explainer.helps(&NO_METHOD, &[]),
+            (Some(method), _) if takes_method => explainer.helps(&METHOD, &[method]),
+            (_, Some(keyword)) if keywords.contains(&keyword) => explainer.helps_meant(keyword),
+            _ => help_nearest_or(explainer, word, keywords.as_slice(), remedy)?,
         }
-        match method_of(word) {
-            Some(method) if takes_method => self.speaker.helps(explanation, &METHOD, &[method]),
-            _ => self.help_keyword(explanation, word, keywords, remedy),
-        }
-    }
-
-    // Says which keyword of those that may stand there is meant by a word, or near to it.
-    fn help_keyword(
-        &self,
-        explanation: &mut Explanation,
-        word: &[u8],
-        keywords: &[&'static [u8]],
-        remedy: &Message,
-    ) -> Result<(), NoMemory>
-        ensures { explanation.new.code ≡ explanation.old.code }
-    {
-        match keyword_of(word) {
-            Some(keyword) if keywords.contains(&keyword) => {
-                self.speaker.helps_meant(explanation, keyword)
-            }
-            _ => help_nearest_or(self.speaker, explanation, word, keywords, remedy),
-        }
-    }
-
-    // Says what to do about a word: write one that is near to a name, another name for a keyword, or else what may stand there.
-    fn help_found(
-        &self,
-        explanation: &mut Explanation,
-        word: &[u8],
-        kind: Kind,
-        remedy: &Message,
-    ) -> Result<(), NoMemory>
-        ensures { explanation.new.code ≡ explanation.old.code }
-    {
-        match kind {
-            Kind::Name => {
-                let keywords = words(self.speaker.alloc, self.sorts)?;
-                self.help_word(explanation, word, keywords.as_slice(), remedy)
-            }
-            Kind::Keyword(_) if is_name_alone(self.sorts) => {
-                self.speaker.helps(explanation, &RESERVED, &[word])
-            }
-            Kind::Keyword(_) | Kind::Number(_) | Kind::Text | Kind::Mark(_) => {
-                self.speaker.helps(explanation, remedy, &[])
-            }
-        }
+        Ok(())
     }
 
     // A token stands where others are expected.
-    fn explain_found(&self, before: Option<Token>, token: Token) -> Result<Explanation, NoMemory>
+    fn explain_found(&self, before: Option<Token>, token: Token) -> Result<Explainer, NoMemory>
         ensures { IfOk result (λ x. x.code ≡ Some B07) }
     {
         let span = token_span(self.text, token.start);
         let word = piece(self.text, span);
         let remedy = self.found_remedy(before, token.kind);
-        let mut explanation = self.say_found(word, span)?;
-        self.help_found(&mut explanation, word, token.kind, remedy)?;
-        Ok(explanation)
+        let list = listed(self.speaker, self.sorts)?;
+        let values = [piece(self.text, span), list.as_slice()];
+        let mut explainer = self.speaker.says_at(&texts::FOUND, &values, span);
+        match token.kind {
+            Kind::Name => self.help_word(&mut explainer, word, remedy)?,
+            Kind::Keyword(_) if self.sorts == [Sort::Name].as_slice() => {
+                explainer.helps(&texts::RESERVED, &[word])
+            }
+            Kind::Keyword(_) | Kind::Number(_) | Kind::Text | Kind::Mark(_) => {
+                explainer.helps(remedy, &[])
+            }
+        }
+        Ok(explainer)
     }
 
     // What stands at the place, or that nothing stands there.
-    fn explain(&self, tokens: &[Token], at: usize) -> Result<Explanation, NoMemory>
+    fn explain(&self, tokens: &[Token], at: usize) -> Result<Explainer, NoMemory>
         ensures { IfOk result (λ x. x.code ≡ Some B07) }
     {
         if self.sorts.is_empty() {
@@ -244,7 +190,9 @@ impl<'a> Place<'a> {
         };
         match before {
             Some(before) if self.is_form(before, token) => self.explain_form(before),
-            Some(before) if self.misses_semicolon(before, token) => self.explain_semicolon(before),
+            Some(before) if self.misses_semicolon(before, token) => {
+                Ok(self.explain_semicolon(before))
+            }
             Some(_) | None => self.explain_found(before, token),
         }
     }
@@ -256,45 +204,31 @@ fn explain_expected(
     text: &[u8],
     tokens: &[Token],
     at: usize,
-) -> Result<Explanation, NoMemory>
+) -> Result<Explainer, NoMemory>
     ensures { IfOk result (λ x. x.code ≡ Some B07) }
 {
     let sorts = expected(speaker.alloc, text, tokens, at)?;
-    let place = Place {
+    let sorts = sorts.as_slice();
+    Place {
         speaker,
         text,
-        sorts: sorts.as_slice(),
-    };
-    place.explain(tokens, at)
-}
-
-// What to do with what stands after the last clause, by its first token.
-fn after_remedy(token: Option<Token>) -> &'static Message {
-    let Some(token) = token else {
-        return &AFTER_OTHER;
-    };
-    if token.kind == Kind::Keyword(Keyword::Stage) {
-        &AFTER_STAGE
-    } else if token.kind == Kind::Keyword(Keyword::Rulebook) {
-        &AFTER_BOOK
-    } else {
-        &AFTER_OTHER
+        sorts,
     }
+    .explain(tokens, at)
 }
 
 // Something stands after the last clause.
-fn explain_after(
-    speaker: Speaker,
-    text: &[u8],
-    tokens: &[Token],
-    at: usize,
-) -> Result<Explanation, NoMemory>
-    ensures { IfOk result (λ x. x.code ≡ Some B10) }
+fn explain_after(speaker: Speaker, text: &[u8], tokens: &[Token], at: usize) -> Explainer
+    ensures { result.code ≡ Some B10 }
 {
     let span = token_span(text, at);
-    let word = speaker.shown(piece(text, span))?;
-    let remedy = after_remedy(token_from(tokens, at));
-    speaker.explains_at(&AFTER, &[word.as_slice()], span, &[remedy])
+    let remedy = match token_from(tokens, at).map(|token| token.kind) {
+        Some(Kind::Keyword(Keyword::Stage)) => &texts::AFTER_STAGE,
+        Some(Kind::Keyword(Keyword::Rulebook)) => &texts::AFTER_BOOK,
+        Some(_) | None => &texts::AFTER_OTHER,
+    };
+    let explainer = speaker.says_at(&texts::AFTER, &[piece(text, span)], span);
+    explainer.helped(remedy, &[])
 }
 
 // What is wrong at an offset.
@@ -303,14 +237,14 @@ fn explain_place(
     text: &[u8],
     tokens: &[Token],
     fault: ParseFault,
-) -> Result<Explanation, NoMemory>
+) -> Result<Explainer, NoMemory>
     ensures { IfOk result (λ x. x.code ≡ grammar_code fault) }
 {
     match fault {
         ParseFault::Expected(at) => explain_expected(speaker, text, tokens, at),
         ParseFault::TooDeep(at) => explain_depth(speaker, text, tokens, at),
         ParseFault::TooManyStages(at) => explain_stages(speaker, text, at),
-        ParseFault::After(at) => explain_after(speaker, text, tokens, at),
+        ParseFault::After(at) => Ok(explain_after(speaker, text, tokens, at)),
         ParseFault::NoMemory => Err(NoMemory),
     }
 }
@@ -339,12 +273,9 @@ pub fn explain_grammar(
     ensures { IfOk result (λ x. x.code ≡ grammar_code fault) }
 {
     let speaker = Speaker { alloc, language };
-    let Some(code) = code_of(fault) else {
-        return Err(NoMemory);
-    };
+    let code = code_of(fault).ok_or(NoMemory)?;
     match explain_whole(speaker, text, code) {
-        Ok(None) => explain_place(speaker, text, tokens, fault),
-        Ok(Some(explanation)) => Ok(explanation),
-        Err(refusal) => Err(refusal),
+        Some(explainer) => explainer.finished(),
+        None => explain_place(speaker, text, tokens, fault)?.finished(),
     }
 }

@@ -22,8 +22,8 @@ mod tokens;
 mod unknown;
 mod whole;
 
+pub use further::explain_test;
 pub use grammar::explain_grammar;
 pub use grammar::limits::explain_long_book;
-pub use tests::explain_test;
 pub use tokens::explain_tokens;
 pub use unknown::{explain_unknown_stage, explain_unknown_statute};

@@ -41,12 +41,11 @@ const WORDS: [(&[u8], &[u8]); 13] = [
 
 // The keyword that stands in a table for a word.
 fn found(table: &[(&[u8], &'static [u8])], word: &[u8]) -> Option<&'static [u8]> {
-    for (other, keyword) in table {
-        if word.eq_ignore_ascii_case(other) {
-            return Some(*keyword);
-        }
-    }
-    None
+    let found = table
+        .iter()
+        .copied()
+        .find(|row| word.eq_ignore_ascii_case(row.0));
+    found.map(|row| row.1)
 }
 
 /// The keyword of a method that is called by another name, if there is one.

@@ -1,80 +1,80 @@
 //! What to say of a name that does not exist: which name may be meant, and which names there are.
 
-ghost use Rattle.std.specs.Prelude.{◌≡◌};
+ghost use Rattle.sl_explain_texts.specs.Explainers.{Keeps};
+ghost use Rattle.sl_explain_texts.specs.Messages.{IsFilledBy};
 
 use crate::keywords::fact_keyword;
 use sl_base_quotients::NoMemory;
-use sl_explain_texts::{Explanation, Message, Speaker};
+use sl_explain_texts::{Explainer, Message, Speaker};
 use sl_law_meaning::{FACTS, Stage};
 use std::alloc::Global;
 
 /// The columns of the returns, as an expression names them.
 pub fn columns_of_returns(alloc: Global) -> Result<Vec<&'static [u8]>, NoMemory> {
-    let mut columns = Vec::new(alloc);
-    for fact in &FACTS {
-        columns.push(fact_keyword(*fact).spelling().as_bytes())?;
+    let words = FACTS.iter().map(|fact| fact_keyword(*fact).spelling());
+    Ok(words.map(str::as_bytes).collect(alloc)?)
+}
+
+// The names of stages.
+fn names_of(alloc: Global, stages: &[Stage]) -> Result<Vec<&[u8]>, NoMemory> {
+    let names = stages.iter().map(|stage| stage.name.as_bytes());
+    Ok(names.collect(alloc)?)
+}
+
+/// Names in a row, each in backquotes.
+pub fn listed(speaker: Speaker, names: &[&[u8]]) -> Result<Vec<u8>, NoMemory> {
+    let mut quoted = Vec::new(speaker.alloc);
+    for name in names {
+        quoted.push(speaker.quoted(name)?)?;
     }
-    Ok(columns)
+    speaker.all_of(quoted.as_slice())
+}
+
+// The names of stages in a row.
+fn listed_stages(speaker: Speaker, stages: &[Stage]) -> Result<Vec<u8>, NoMemory> {
+    listed(speaker, names_of(speaker.alloc, stages)?.as_slice())
 }
 
 /// Adds the question whether a name is meant that is near to a word, and where none is near, what else to do.
 pub fn help_nearest_or(
-    speaker: Speaker,
-    explanation: &mut Explanation,
+    explainer: &mut Explainer,
     word: &[u8],
     names: &[&[u8]],
     remedy: &Message,
 ) -> Result<(), NoMemory>
-    ensures { explanation.new.code ≡ explanation.old.code }
+    requires { IsFilledBy remedy.now 0 }
+    ensures { Keeps explainer.old explainer.new }
 {
-    match speaker.helps_nearest(explanation, word, names) {
-        Ok(true) => Ok(()),
-        Ok(false) => speaker.helps(explanation, remedy, &[]),
-        Err(fault) => Err(fault),
+    if !explainer.helps_nearest(word, names)? {
+        explainer.helps(remedy, &[]);
     }
+    Ok(())
 }
 
 /// Adds the question whether a name that is near to a word is meant: that of one of the stages, or one of some others.
 pub fn help_nearest_stage(
-    speaker: Speaker,
-    explanation: &mut Explanation,
+    explainer: &mut Explainer,
     word: &[u8],
     stages: &[Stage],
     others: &[&'static [u8]],
 ) -> Result<(), NoMemory>
-    ensures { explanation.new.code ≡ explanation.old.code }
+    ensures { Keeps explainer.old explainer.new }
 {
-    let mut names: Vec<&[u8]> = Vec::new(speaker.alloc);
-    for stage in stages {
-        names.push(stage.name.as_bytes())?;
-    }
+    let mut names = names_of(explainer.speaker().alloc, stages)?;
     names.extend_from_slice(others)?;
-    speaker.helps_nearest(explanation, word, names.as_slice())?;
+    explainer.helps_nearest(word, names.as_slice())?;
     Ok(())
 }
 
-// The names of stages in a row, each in backquotes.
-fn listed_stages(speaker: Speaker, stages: &[Stage]) -> Result<Vec<u8>, NoMemory> {
-    let mut names = Vec::new(speaker.alloc);
-    for stage in stages {
-        names.push(speaker.quoted(stage.name.as_bytes())?)?;
-    }
-    speaker.all_of(names.as_slice())
-}
-
 /// Adds a sentence with the names of stages, or where there are none, another one.
-pub fn help_stages(
-    speaker: Speaker,
-    explanation: &mut Explanation,
-    stages: &[Stage],
-    some: &Message,
-    none: &Message,
-) -> Result<(), NoMemory>
-    ensures { explanation.new.code ≡ explanation.old.code }
+pub fn help_stages(explainer: &mut Explainer, stages: &[Stage], some: &Message, none: &Message)
+    requires some { IsFilledBy some.now 1 }
+    requires none { IsFilledBy none.now 0 }
+    ensures { Keeps explainer.old explainer.new }
 {
     if stages.is_empty() {
-        return speaker.helps(explanation, none, &[]);
+        explainer.helps(none, &[]);
+    } else {
+        explainer.helps_with(some, listed_stages(explainer.speaker(), stages));
     }
-    let names = listed_stages(speaker, stages)?;
-    speaker.helps(explanation, some, &[names.as_slice()])
 }

@@ -8,13 +8,11 @@ mod character;
 
 use crate::near::help_nearest_or;
 use crate::pieces::{piece, span_within, token_span};
-use crate::texts::tokens::{
-    BIG_NUMBER, BIG_NUMBER_REMEDY, LONG_NAME, LONG_NAME_REMEDY, NOT_CLOSED, NOT_CLOSED_REMEDY,
-};
+use crate::texts::tokens as texts;
 use crate::whole::explain_whole;
 use character::{explain_character, explain_in_text};
 use sl_base_quotients::{MAX_NAME_BYTES, NoMemory};
-use sl_explain_texts::{Explanation, FaultCode, Language, Span, Speaker};
+use sl_explain_texts::{Explainer, Explanation, FaultCode, Language, Speaker};
 use sl_lex::LexFault;
 use std::alloc::Global;
 
@@ -30,70 +28,57 @@ fn inner_len(rest: &[u8]) -> usize {
 }
 
 // A text in quotes that is not closed, or has a character that it may not have.
-fn explain_open(speaker: Speaker, text: &[u8], at: usize) -> Result<Explanation, NoMemory>
+fn explain_open(speaker: Speaker, text: &[u8], at: usize) -> Result<Explainer, NoMemory>
     ensures { IfOk result (λ x. x.code ≡ Some B04) }
 {
     let inner = inner_len(text.get(at..).unwrap_or(&[]));
     let stop = at.saturating_add(inner).saturating_add(1);
     match text.get(stop).copied() {
         None | Some(b'\n' | b'\r') => {
-            let span = span_within(text, at, stop);
-            speaker.explains_at(&NOT_CLOSED, &[], span, &[&NOT_CLOSED_REMEDY])
+            let explainer = speaker.says_at(&texts::NOT_CLOSED, &[], span_within(text, at, stop));
+            Ok(explainer.helped(&texts::NOT_CLOSED_REMEDY, &[]))
         }
         Some(_) => explain_in_text(speaker, text, stop),
     }
 }
 
 // A number that is too great.
-fn explain_number(speaker: Speaker, text: &[u8], at: usize) -> Result<Explanation, NoMemory>
-    ensures { IfOk result (λ x. x.code ≡ Some B05) }
+fn explain_number(speaker: Speaker, text: &[u8], at: usize) -> Explainer
+    ensures { result.code ≡ Some B05 }
 {
     let span = token_span(text, at);
-    let number = speaker.shown(piece(text, span))?;
-    speaker.explains_at(
-        &BIG_NUMBER,
-        &[number.as_slice()],
-        span,
-        &[&BIG_NUMBER_REMEDY],
-    )
-}
-
-// That a word is too long, and how long it is.
-fn say_length(speaker: Speaker, word: &[u8], span: Span) -> Result<Explanation, NoMemory>
-    ensures { IfOk result (λ x. x.code ≡ Some B06) }
-{
-    let name = speaker.shown(word)?;
-    let length = word.len().to_string(speaker.alloc)?;
-    let most = MAX_NAME_BYTES.to_string(speaker.alloc)?;
-    let values = [name.as_slice(), length.as_bytes(), most.as_bytes()];
-    speaker.says_at(&LONG_NAME, &values, span)
+    speaker
+        .says_at(&texts::BIG_NUMBER, &[piece(text, span)], span)
+        .helped(&texts::BIG_NUMBER_REMEDY, &[])
 }
 
 // A word that is too long.
-fn explain_word(speaker: Speaker, text: &[u8], at: usize) -> Result<Explanation, NoMemory>
+fn explain_word(speaker: Speaker, text: &[u8], at: usize) -> Result<Explainer, NoMemory>
     ensures { IfOk result (λ x. x.code ≡ Some B06) }
 {
     let span = token_span(text, at);
     let word = piece(text, span);
-    let mut explanation = say_length(speaker, word, span)?;
+    let length = speaker.number(word.len())?;
+    let most = speaker.number(MAX_NAME_BYTES)?;
+    let values = [piece(text, span), length.as_slice(), most.as_slice()];
+    let mut explainer = speaker.says_at(&texts::LONG_NAME, &values, span);
     help_nearest_or(
-        speaker,
-        &mut explanation,
+        &mut explainer,
         word,
         &LONG_KEYWORDS,
-        &LONG_NAME_REMEDY,
+        &texts::LONG_NAME_REMEDY,
     )?;
-    Ok(explanation)
+    Ok(explainer)
 }
 
 // What is wrong at an offset.
-fn explain_place(speaker: Speaker, text: &[u8], fault: LexFault) -> Result<Explanation, NoMemory>
+fn explain_place(speaker: Speaker, text: &[u8], fault: LexFault) -> Result<Explainer, NoMemory>
     ensures { IfOk result (λ x. x.code ≡ token_code fault) }
 {
     match fault {
         LexFault::BadByte(at) => explain_character(speaker, text, at),
         LexFault::OpenString(at) => explain_open(speaker, text, at),
-        LexFault::BigNumber(at) => explain_number(speaker, text, at),
+        LexFault::BigNumber(at) => Ok(explain_number(speaker, text, at)),
         LexFault::LongName(at) => explain_word(speaker, text, at),
         LexFault::NoMemory => Err(NoMemory),
     }
@@ -122,12 +107,9 @@ pub fn explain_tokens(
     ensures { IfOk result (λ x. x.code ≡ token_code fault) }
 {
     let speaker = Speaker { alloc, language };
-    let Some(code) = code_of(fault) else {
-        return Err(NoMemory);
-    };
+    let code = code_of(fault).ok_or(NoMemory)?;
     match explain_whole(speaker, text, code) {
-        Ok(None) => explain_place(speaker, text, fault),
-        Ok(Some(explanation)) => Ok(explanation),
-        Err(refusal) => Err(refusal),
+        Some(explainer) => explainer.finished(),
+        None => explain_place(speaker, text, fault)?.finished(),
     }
 }

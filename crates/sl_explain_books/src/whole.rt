@@ -1,59 +1,10 @@
 //! Files that are something else than a rulebook.
 
-ghost use Rattle.std.specs.Prelude.{◌≡◌, IfOk, IfSome, Some};
+ghost use Rattle.std.specs.Prelude.{◌≡◌, IfSome, Some};
 
 use crate::pieces::span_within;
-use crate::texts::whole::{
-    BYTE_ORDER_MARK, BYTE_ORDER_MARK_REMEDY, CODE_FILE, CODE_FILE_REMEDY, EMPTY_FILE,
-    EMPTY_FILE_REMEDY, PACKED_FILE, PACKED_FILE_REMEDY, RETURNS_FILE, RETURNS_FILE_REMEDY,
-    UTF16_FILE, UTF16_FILE_REMEDY,
-};
-use sl_base_quotients::NoMemory;
-use sl_explain_texts::{Explanation, FaultCode, Message, Speaker, packing_of};
-
-// What a file is that is no rulebook.
-struct Other {
-    sentence: Message,
-    remedy: Message,
-    // How many bytes show it.
-    shown: usize,
-}
-
-static EMPTY: Other = Other {
-    sentence: EMPTY_FILE,
-    remedy: EMPTY_FILE_REMEDY,
-    shown: 0,
-};
-
-static CODE: Other = Other {
-    sentence: CODE_FILE,
-    remedy: CODE_FILE_REMEDY,
-    shown: 3,
-};
-
-static RETURNS: Other = Other {
-    sentence: RETURNS_FILE,
-    remedy: RETURNS_FILE_REMEDY,
-    shown: 4,
-};
-
-static PACKED: Other = Other {
-    sentence: PACKED_FILE,
-    remedy: PACKED_FILE_REMEDY,
-    shown: 2,
-};
-
-static UTF16: Other = Other {
-    sentence: UTF16_FILE,
-    remedy: UTF16_FILE_REMEDY,
-    shown: 2,
-};
-
-static BYTE_ORDER: Other = Other {
-    sentence: BYTE_ORDER_MARK,
-    remedy: BYTE_ORDER_MARK_REMEDY,
-    shown: 3,
-};
+use crate::texts::whole as texts;
+use sl_explain_texts::{Explainer, FaultCode, Speaker, packing_of};
 
 // The byte order mark of UTF-8.
 const MARK: &[u8] = b"\xEF\xBB\xBF";
@@ -85,37 +36,27 @@ fn is_returns(text: &[u8]) -> bool {
     text.starts_with(b"kind") && matches!(rest.first().copied(), Some(b',' | b';' | b'\t'))
 }
 
-fn what_it_is(text: &[u8]) -> Option<&'static Other> {
-    if text.is_empty() {
-        Some(&EMPTY)
-    } else if text.starts_with(b"SLC") {
-        Some(&CODE)
-    } else if is_returns(text) {
-        Some(&RETURNS)
-    } else if packing_of(text).is_some() {
-        Some(&PACKED)
-    } else if is_utf16(text) {
-        Some(&UTF16)
-    } else if text.starts_with(MARK) {
-        Some(&BYTE_ORDER)
-    } else {
-        None
-    }
-}
-
 /// Explains a file by what it is, if that is something else than a rulebook, with the code of the fault that was met in it.
-pub fn explain_whole(
-    speaker: Speaker,
-    text: &[u8],
-    code: FaultCode,
-) -> Result<Option<Explanation>, NoMemory>
-    ensures { IfOk result (λ found. IfSome found (λ x. x.code ≡ Some code)) }
+pub fn explain_whole(speaker: Speaker, text: &[u8], code: FaultCode) -> Option<Explainer>
+    ensures { IfSome result (λ x. x.code ≡ Some code) }
 {
-    let Some(other) = what_it_is(text) else {
-        return Ok(None);
+    // what it is, what to do, and how many bytes show it
+    let (message, remedy, shown) = if text.is_empty() {
+        (&texts::EMPTY_FILE, &texts::EMPTY_FILE_REMEDY, 0)
+    } else if text.starts_with(b"SLC") {
+        (&texts::CODE_FILE, &texts::CODE_FILE_REMEDY, 3)
+    } else if is_returns(text) {
+        (&texts::RETURNS_FILE, &texts::RETURNS_FILE_REMEDY, 4)
+    } else if packing_of(text).is_some() {
+        (&texts::PACKED_FILE, &texts::PACKED_FILE_REMEDY, 2)
+    } else if is_utf16(text) {
+        (&texts::UTF16_FILE, &texts::UTF16_FILE_REMEDY, 2)
+    } else if text.starts_with(MARK) {
+        (&texts::BYTE_ORDER_MARK, &texts::BYTE_ORDER_MARK_REMEDY, 3)
+    } else {
+        return None;
     };
-    let sentence = other.sentence.of_fault(code);
-    let span = span_within(text, 0, other.shown);
-    let explanation = speaker.explains_at(&sentence, &[], span, &[&other.remedy])?;
-    Ok(Some(explanation))
+    let span = span_within(text, 0, shown);
+    let explainer = speaker.says_at(&message.of_fault(code), &[], span);
+    Some(explainer.helped(remedy, &[]))
 }

@@ -1,25 +1,26 @@
 //! Files that cannot be opened, read or written.
 
-use crate::texts::{
-    ANOTHER, BACKSLASH, BOOK_FIRST, BOOK_THEN_RETURNS, FOLDER, FORCE, FULL, LIBRARY, LOST,
-    LOST_BOOK, NO_BEFORE, NO_BOOK, NO_CODE, NO_CODE_FILE, NO_NAMES, NO_OUTPUT, NO_RETURNS, PATH,
-    RETURNS_FIRST, RETURNS_THEN_BOOK, SCHEME, SHELL, STANDARD_INPUT, UNREAD_BEFORE, UNREAD_BOOK,
-    UNREAD_CODE, UNREAD_NAMES, UNREAD_RETURNS, UNWRITTEN,
-};
+ghost use Rattle.std.specs.Prelude.{◌≡◌, IfOk, IfSome, None};
+ghost use Rattle.sl_explain_texts.specs.Explainers.{Keeps};
+ghost use Rattle.sl_explain_texts.specs.Messages.{IsFilledBy};
+
+use crate::texts;
 use sl_base_quotients::NoMemory;
 use sl_count_inputs::{DeskError, Input};
-use sl_explain_texts::{Explanation, Language, Message};
+use sl_explain_texts::{Explainer, Explanation, Language, Message, Speaker};
 use sl_laws::law;
 use std::alloc::Global;
 
 // The message that says which input cannot be opened.
-fn unopened(input: Input) -> Message {
+fn unopened(input: Input) -> &'static Message
+    ensures { IsFilledBy result.now 2 }
+{
     match input {
-        Input::Book => NO_BOOK,
-        Input::Returns => NO_RETURNS,
-        Input::Code => NO_CODE,
-        Input::Names => NO_NAMES,
-        Input::Before => NO_BEFORE,
+        Input::Book => &texts::NO_BOOK,
+        Input::Returns => &texts::NO_RETURNS,
+        Input::Code => &texts::NO_CODE,
+        Input::Names => &texts::NO_NAMES,
+        Input::Before => &texts::NO_BEFORE,
     }
 }
 
@@ -28,49 +29,46 @@ fn takes_returns_first(command: &str) -> bool {
     command == "totals" || command == "compare"
 }
 
-// What is said of the order of the words of a command, where they seem to stand in the wrong one.
-fn order(command: &str, input: Input, path: &str) -> Option<&'static Message> {
+// What to do about a path.
+fn advice(input: Input, path: &str) -> &'static Message
+    ensures { IsFilledBy result.now 1 }
+{
+    if input == Input::Book && law(path).is_some() {
+        &texts::LIBRARY
+    } else if path == "-" {
+        &texts::STANDARD_INPUT
+    } else if path.starts_with("file:") {
+        &texts::SCHEME
+    } else if path.starts_with("~") || path.contains("*") {
+        &texts::SHELL
+    } else if path.contains("\\") {
+        &texts::BACKSLASH
+    } else {
+        &texts::PATH
+    }
+}
+
+// Adds what is said of the order of the words of a command, where they seem to stand in the wrong one, or what to do about a path.
+fn help_path(explainer: &mut Explainer, command: &str, input: Input, path: &str)
+    ensures { Keeps explainer.old explainer.new }
+{
+    let (word, name) = (command.as_bytes(), path.as_bytes());
     let is_first = takes_returns_first(command);
     match input {
-        Input::Book if path.ends_with(".csv") && is_first => Some(&RETURNS_THEN_BOOK),
-        Input::Book if path.ends_with(".csv") => Some(&BOOK_THEN_RETURNS),
-        Input::Returns if path.starts_with("@") && is_first => Some(&RETURNS_FIRST),
-        Input::Returns if path.starts_with("@") && command != "run" => Some(&BOOK_FIRST),
-        Input::Code if path.starts_with("@") => Some(&NO_CODE_FILE),
-        _ => None,
-    }
-}
-
-// What to do about a path.
-fn advice(input: Input, path: &str) -> Message {
-    if input == Input::Book && law(path).is_some() {
-        LIBRARY
-    } else if path == "-" {
-        STANDARD_INPUT
-    } else if path.starts_with("file:") {
-        SCHEME
-    } else if path.starts_with("~") || path.contains("*") {
-        SHELL
-    } else if path.contains("\\") {
-        BACKSLASH
-    } else {
-        PATH
-    }
-}
-
-// What is said of the order of the words of a command, or what to do about a path.
-fn remedy(
-    alloc: Global,
-    language: Language,
-    command: &str,
-    input: Input,
-    path: &str,
-) -> Result<Vec<u8>, NoMemory> {
-    let (word, path_bytes) = (command.as_bytes(), path.as_bytes());
-    match order(command, input, path) {
-        Some(message) if input == Input::Book => message.text(alloc, language, &[word, word]),
-        Some(message) => message.text(alloc, language, &[path_bytes, word, word, path_bytes]),
-        None => advice(input, path).text(alloc, language, &[path_bytes]),
+        Input::Book if path.ends_with(".csv") && is_first => {
+            explainer.helps(&texts::RETURNS_THEN_BOOK, &[word, word])
+        }
+        Input::Book if path.ends_with(".csv") => {
+            explainer.helps(&texts::BOOK_THEN_RETURNS, &[word, word])
+        }
+        Input::Returns if path.starts_with("@") && is_first => {
+            explainer.helps(&texts::RETURNS_FIRST, &[name, word, word, name])
+        }
+        Input::Returns if path.starts_with("@") && command != "run" => {
+            explainer.helps(&texts::BOOK_FIRST, &[name, word, word, name])
+        }
+        Input::Code if path.starts_with("@") => explainer.helps(&texts::NO_CODE_FILE, &[name]),
+        _ => explainer.helps(advice(input, path), &[name]),
     }
 }
 
@@ -82,37 +80,27 @@ pub fn explain_opening(
     input: Input,
     path: &str,
     reason: &str,
-) -> Result<Explanation, NoMemory> {
+) -> Result<Explanation, NoMemory>
+    ensures { IfOk result (λ x. x.code ≡ None) }
+{
+    let speaker = Speaker { alloc, language };
     let values = [path.as_bytes(), reason.as_bytes()];
-    let sentence = unopened(input).text(alloc, language, &values)?;
-    let mut explanation = Explanation::new(alloc, sentence);
-    explanation.remedy(remedy(alloc, language, command, input, path)?)?;
-    Ok(explanation)
+    let mut explainer = speaker.tells(unopened(input), &values);
+    help_path(&mut explainer, command, input, path);
+    explainer.finished()
 }
 
 // The message that says which input cannot be read.
-fn unread(input: Input) -> Message {
+fn unread(input: Input) -> &'static Message
+    ensures { IsFilledBy result.now 0 }
+{
     match input {
-        Input::Book => UNREAD_BOOK,
-        Input::Returns => UNREAD_RETURNS,
-        Input::Code => UNREAD_CODE,
-        Input::Names => UNREAD_NAMES,
-        Input::Before => UNREAD_BEFORE,
+        Input::Book => &texts::UNREAD_BOOK,
+        Input::Returns => &texts::UNREAD_RETURNS,
+        Input::Code => &texts::UNREAD_CODE,
+        Input::Names => &texts::UNREAD_NAMES,
+        Input::Before => &texts::UNREAD_BEFORE,
     }
-}
-
-// What is said with these values, and what to do.
-fn explained(
-    alloc: Global,
-    language: Language,
-    sentence: &Message,
-    values: &[&[u8]],
-    remedy: &Message,
-) -> Result<Explanation, NoMemory> {
-    let sentence = sentence.text(alloc, language, values)?;
-    let mut explanation = Explanation::new(alloc, sentence);
-    explanation.remedy(remedy.text(alloc, language, &[])?)?;
-    Ok(explanation)
 }
 
 /// Why a call failed: an input that was opened and cannot be read, or an output; `None` where memory ran out.
@@ -120,14 +108,20 @@ pub fn explain_failure(
     alloc: Global,
     language: Language,
     error: DeskError,
-) -> Result<Option<Explanation>, NoMemory> {
-    match error {
-        DeskError::Read(input) => {
-            Ok(Some(explained(alloc, language, &unread(input), &[], &FOLDER)?))
-        },
-        DeskError::Write => { Ok(Some(explained(alloc, language, &UNWRITTEN, &[], &FULL)?)) },
-        DeskError::NoMemory => Ok(None),
-    }
+) -> Result<Option<Explanation>, NoMemory>
+    ensures { IfOk result (λ told. IfSome told (λ x. x.code ≡ None)) }
+{
+    let speaker = Speaker { alloc, language };
+    let explainer = match error {
+        DeskError::Read(input) => speaker
+            .tells(unread(input), &[])
+            .helped(&texts::FOLDER, &[]),
+        DeskError::Write => speaker
+            .tells(&texts::UNWRITTEN, &[])
+            .helped(&texts::FULL, &[]),
+        DeskError::NoMemory => return Ok(None),
+    };
+    Ok(Some(explainer.finished()?))
 }
 
 /// Why a file cannot be written, with the reason that the system gives.
@@ -136,9 +130,13 @@ pub fn explain_writing(
     language: Language,
     path: &str,
     reason: &str,
-) -> Result<Explanation, NoMemory> {
+) -> Result<Explanation, NoMemory>
+    ensures { IfOk result (λ x. x.code ≡ None) }
+{
+    let speaker = Speaker { alloc, language };
     let values = [path.as_bytes(), reason.as_bytes()];
-    explained(alloc, language, &NO_OUTPUT, &values, &PATH)
+    let explainer = speaker.tells(&texts::NO_OUTPUT, &values);
+    explainer.helped(&texts::PATH, &[]).finished()
 }
 
 /// The bytes that writing a code file would lose.
@@ -156,10 +154,14 @@ pub fn explain_kept(
     language: Language,
     path: &str,
     lost: Lost,
-) -> Result<Explanation, NoMemory> {
-    let values = [path.as_bytes()];
-    match lost {
-        Lost::Rulebook => explained(alloc, language, &LOST_BOOK, &values, &ANOTHER),
-        Lost::Other => explained(alloc, language, &LOST, &values, &FORCE),
-    }
+) -> Result<Explanation, NoMemory>
+    ensures { IfOk result (λ x. x.code ≡ None) }
+{
+    let speaker = Speaker { alloc, language };
+    let (sentence, remedy) = match lost {
+        Lost::Rulebook => (&texts::LOST_BOOK, &texts::ANOTHER),
+        Lost::Other => (&texts::LOST, &texts::FORCE),
+    };
+    let explainer = speaker.tells(sentence, &[path.as_bytes()]);
+    explainer.helped(remedy, &[]).finished()
 }

@@ -2,10 +2,10 @@
 
 ghost use Rattle.std.specs.Prelude.{◌≡◌};
 
-use crate::texts::parts::{EXAMPLE, REMEDY};
+use crate::texts::page::PAGE;
 use crate::texts::{code_files, grammar, legal, returns, tests};
 use sl_base_quotients::NoMemory;
-use sl_explain_texts::{FaultCode, Language, Message, append};
+use sl_explain_texts::{FaultCode, Language, Message};
 use std::alloc::Global;
 
 /// What is to be said of a code: a title, what it means, an example of a line that has the fault or of the line that tells of it, and what to do.
@@ -84,19 +84,12 @@ pub fn entry_of(code: FaultCode) -> &'static Entry
 pub fn text_about(alloc: Global, language: Language, code: FaultCode) -> Result<Vec<u8>, NoMemory> {
     let entry = entry_of(code);
     let say = |message: &Message| message.in_language(language).as_bytes();
-    let mut text = Vec::new(alloc);
-    append(
-        &mut text,
-        &[code.word().as_bytes(), b": ", say(&entry.title), b"\n\n"],
-    )?;
-    append(&mut text, &[say(&entry.meaning), b"\n\n"])?;
-    append(
-        &mut text,
-        &[say(&EXAMPLE), b":\n  ", entry.example.as_bytes(), b"\n\n"],
-    )?;
-    append(
-        &mut text,
-        &[say(&REMEDY), b":\n  ", say(&entry.remedy), b"\n"],
-    )?;
-    Ok(text)
+    let values = [
+        code.word().as_bytes(),
+        say(&entry.title),
+        say(&entry.meaning),
+        entry.example.as_bytes(),
+        say(&entry.remedy),
+    ];
+    PAGE.text(alloc, language, &values)
 }

@@ -2,12 +2,10 @@
 
 ghost use Rattle.std.specs.Prelude.{◌≡◌, IfOk, Some};
 ghost use Rattle.sl_explain_texts.specs.declared.code.FaultCode.TheVariants.{C14, C15};
+ghost use Rattle.sl_explain_texts.specs.Messages.{IsFilledBy, IsSaidBy};
 ghost use Rattle.sl_explain_faults.specs.Codes.{file_code, verifier_code};
 
-use crate::texts::{
-    AGAIN, BOOK, BUDGET, CHANGED, CODE_LIMIT, COUNT, EMPTY, JUMP, KIND, LONG, MAGIC, MEET, OP,
-    ORDER, REGISTER, RETURNS, RUNS_OFF, SHORT_CODE, SLOT, TABLE, TRAILING, VERSION,
-};
+use crate::texts::code_files as texts;
 use sl_base_quotients::NoMemory;
 use sl_code::CodeFault;
 use sl_code_semantics::VerifyFault;
@@ -17,16 +15,18 @@ use sl_explain_texts::{
 use std::alloc::Global;
 
 // What is said of bytes that do not begin as a code file, and what to do.
-fn magic_messages(bytes: &[u8]) -> (&'static Message, &'static Message) {
+fn magic_messages(bytes: &[u8]) -> (&'static Message, &'static Message)
+    ensures { IsFilledBy result.0.now 0 × IsFilledBy result.1.now 0 }
+{
     let text = bytes.trim_ascii();
     if text.is_empty() {
-        (&EMPTY, &AGAIN)
+        (&texts::EMPTY, &texts::AGAIN)
     } else if text.starts_with(b"rulebook") || text.starts_with(b"#") {
-        (&BOOK, &COUNT)
+        (&texts::BOOK, &texts::COUNT)
     } else if text.starts_with(b"kind") || text.starts_with(b"\xEF\xBB\xBFkind") {
-        (&RETURNS, &ORDER)
+        (&texts::RETURNS, &texts::ORDER)
     } else {
-        (&MAGIC, &AGAIN)
+        (&texts::MAGIC, &texts::AGAIN)
     }
 }
 
@@ -36,22 +36,25 @@ fn explain_magic(speaker: Speaker, bytes: &[u8], code: FaultCode) -> Result<Expl
 {
     let (message, remedy) = magic_messages(bytes);
     let sentence = message.of_fault(code);
-    if bytes.is_empty() || std::str::from_utf8(bytes).is_err() {
-        return speaker.explains(&sentence, &[], &[remedy]);
-    }
-    let span = Span {
-        start: 0,
-        end: first_line(bytes).len(),
+    let explainer = if bytes.is_empty() || std::str::from_utf8(bytes).is_err() {
+        speaker.says(&sentence, &[])
+    } else {
+        let end = first_line(bytes).len();
+        speaker.says_at(&sentence, &[], Span { start: 0, end })
     };
-    speaker.explains_at(&sentence, &[], span, &[remedy])
+    explainer.helped(remedy, &[]).finished()
 }
 
 // A fault at an offset, or at an instruction.
 fn explain_at(speaker: Speaker, sentence: &Sentence, at: usize) -> Result<Explanation, NoMemory>
+    requires { IsSaidBy sentence.now 1 }
     ensures { IfOk result (λ x. x.code ≡ Some sentence.now.0) }
 {
     let number = speaker.number(at)?;
-    speaker.explains(sentence, &[number.as_slice()], &[&AGAIN, &CHANGED])
+    let mut explainer = speaker.says(sentence, &[number.as_slice()]);
+    explainer.helps(&texts::AGAIN, &[]);
+    explainer.helps(&texts::CHANGED, &[]);
+    explainer.finished()
 }
 
 /// Explains the fault that bytes have as a code file.
@@ -66,12 +69,12 @@ pub fn explain_code_bytes(
     let speaker = Speaker { alloc, language };
     match fault {
         CodeFault::Magic(_) => explain_magic(speaker, bytes, FaultCode::C01),
-        CodeFault::Version(at) => explain_at(speaker, &VERSION, at),
-        CodeFault::Op(at) => explain_at(speaker, &OP, at),
+        CodeFault::Version(at) => explain_at(speaker, &texts::VERSION, at),
+        CodeFault::Op(at) => explain_at(speaker, &texts::OP, at),
         CodeFault::Short(_) if bytes.is_empty() => explain_magic(speaker, bytes, FaultCode::C04),
-        CodeFault::Short(at) => explain_at(speaker, &SHORT_CODE, at),
-        CodeFault::Trailing(at) => explain_at(speaker, &TRAILING, at),
-        CodeFault::Limit(at) => explain_at(speaker, &CODE_LIMIT, at),
+        CodeFault::Short(at) => explain_at(speaker, &texts::SHORT_CODE, at),
+        CodeFault::Trailing(at) => explain_at(speaker, &texts::TRAILING, at),
+        CodeFault::Limit(at) => explain_at(speaker, &texts::CODE_LIMIT, at),
         CodeFault::NoMemory => Err(NoMemory),
     }
 }
@@ -86,13 +89,13 @@ pub fn explain_code_kinds(
 {
     let speaker = Speaker { alloc, language };
     match fault {
-        VerifyFault::Jump(at) => explain_at(speaker, &JUMP, at),
-        VerifyFault::Register(at) => explain_at(speaker, &REGISTER, at),
-        VerifyFault::Kind(at) => explain_at(speaker, &KIND, at),
-        VerifyFault::Slot(at) => explain_at(speaker, &SLOT, at),
-        VerifyFault::TableKind(at) => explain_at(speaker, &TABLE, at),
-        VerifyFault::Meet(at) => explain_at(speaker, &MEET, at),
-        VerifyFault::RunsOff(at) => explain_at(speaker, &RUNS_OFF, at),
+        VerifyFault::Jump(at) => explain_at(speaker, &texts::JUMP, at),
+        VerifyFault::Register(at) => explain_at(speaker, &texts::REGISTER, at),
+        VerifyFault::Kind(at) => explain_at(speaker, &texts::KIND, at),
+        VerifyFault::Slot(at) => explain_at(speaker, &texts::SLOT, at),
+        VerifyFault::TableKind(at) => explain_at(speaker, &texts::TABLE, at),
+        VerifyFault::Meet(at) => explain_at(speaker, &texts::MEET, at),
+        VerifyFault::RunsOff(at) => explain_at(speaker, &texts::RUNS_OFF, at),
     }
 }
 
@@ -101,7 +104,8 @@ pub fn explain_long_code(alloc: Global, language: Language) -> Result<Explanatio
     ensures { IfOk result (λ x. x.code ≡ Some C14) }
 {
     let speaker = Speaker { alloc, language };
-    speaker.explains(&LONG, &[], &[&AGAIN])
+    let explainer = speaker.says(&texts::LONG, &[]);
+    explainer.helped(&texts::AGAIN, &[]).finished()
 }
 
 /// Explains a run that takes more steps than it may.
@@ -109,5 +113,6 @@ pub fn explain_budget(alloc: Global, language: Language) -> Result<Explanation, 
     ensures { IfOk result (λ x. x.code ≡ Some C15) }
 {
     let speaker = Speaker { alloc, language };
-    speaker.explains(&BUDGET, &[], &[&AGAIN])
+    let explainer = speaker.says(&texts::BUDGET, &[]);
+    explainer.helped(&texts::AGAIN, &[]).finished()
 }

@@ -15,6 +15,12 @@ pub struct Sums {
     pub counted: u64,
 }
 
+// No lists, and so no votes.
+const NO_LISTS: Sums = Sums {
+    lists: 0,
+    counted: 0,
+};
+
 // Whether a Land and a party belong to a scope.
 fn is_in(scope: Scope, land: usize, party: usize) -> bool {
     match scope {
@@ -45,22 +51,9 @@ impl Sums {
     }
 }
 
-// The lists of a party in a scope.
-fn sums_of_party(returns: &Returns, scope: Scope, party: usize) -> Sums {
-    let mut sums = Sums {
-        lists: 0,
-        counted: 0,
-    };
-    sums.add_party(returns, scope, party);
-    sums
-}
-
 // All lists of a scope.
 pub fn sums_of(returns: &Returns, scope: Scope) -> Sums {
-    let mut sums = Sums {
-        lists: 0,
-        counted: 0,
-    };
+    let mut sums = NO_LISTS;
     for party in 0..returns.parties() {
         sums.add_party(returns, scope, party);
     }
@@ -71,9 +64,10 @@ pub fn sums_of(returns: &Returns, scope: Scope) -> Sums {
 pub fn majority_party(returns: &Returns, scope: Scope) -> Option<(usize, u64)> {
     let all = sums_of(returns, scope).counted;
     for party in 0..returns.parties() {
-        let own = sums_of_party(returns, scope, party).counted;
-        if own > all.saturating_sub(own) {
-            return Some((party, own));
+        let mut own = NO_LISTS;
+        own.add_party(returns, scope, party);
+        if own.counted > all.saturating_sub(own.counted) {
+            return Some((party, own.counted));
         }
     }
     None
@@ -94,10 +88,7 @@ pub fn population(returns: &Returns) -> u64
 fn is_of(winner: Win, party: usize) -> bool
     ensures { result ≡ is_of party winner }
 {
-    match winner.party {
-        Some(own) => own == party,
-        None => false,
-    }
+    winner.party == Some(party)
 }
 
 // Whether a winner is of a scope.
@@ -132,14 +123,6 @@ struct Winners {
 }
 
 impl Winners {
-    // Adds the row of a Land.
-    fn add_row(&mut self, alloc: Global, parties: usize) -> Result<(), NoMemory> {
-        let mut row = Vec::new(alloc);
-        row.resize(parties, 0)?;
-        self.rows.push(row)?;
-        Ok(())
-    }
-
     // Counts a winner.
     fn count(&mut self, winner: Win) {
         let (Some(row), Some(party)) = (self.rows.get_mut(winner.land), winner.party) else {
@@ -152,22 +135,20 @@ impl Winners {
 
     // Those of a party in a Land.
     fn of(&self, land: usize, party: usize) -> u64 {
-        match self.rows.get(land) {
-            Some(row) => row.get(party).copied().unwrap_or(0),
-            None => 0,
-        }
+        let row = self.rows.get(land);
+        row.and_then(|row| row.get(party)).copied().unwrap_or(0)
     }
 }
 
 // The winners of all lists, none counted.
 fn no_winners(alloc: Global, returns: &Returns) -> Result<Winners, NoMemory> {
-    let mut winners = Winners {
-        rows: Vec::new(alloc),
-    };
+    let mut rows = Vec::new(alloc);
     for _ in 0..returns.lands() {
-        winners.add_row(alloc, returns.parties())?;
+        let mut row = Vec::new(alloc);
+        row.resize(returns.parties(), 0)?;
+        rows.push(row)?;
     }
-    Ok(winners)
+    Ok(Winners { rows })
 }
 
 // The winners of all lists.
@@ -214,25 +195,16 @@ fn burden_of(returns: &Returns, winners: &Winners, win: usize) -> Option<Burden>
     })
 }
 
-// Of the lists of winners, the first one with the most winners for its counted votes.
-fn heaviest_of(returns: &Returns, winners: &Winners) -> Option<Burden> {
+// The list with the most winners for its counted votes, the first of equals, if there is a winner with a party.
+pub fn heaviest(alloc: Global, returns: &Returns) -> Result<Option<Burden>, NoMemory> {
+    let winners = winners_of_lists(alloc, returns)?;
     let mut found: Option<Burden> = None;
     for win in 0..returns.wins() {
-        if let Some(burden) = burden_of(returns, winners, win) {
-            let is_more = match found {
-                Some(before) => burden.is_heavier(&before),
-                None => true,
-            };
-            if is_more {
+        if let Some(burden) = burden_of(returns, &winners, win) {
+            if found.is_none_or(|before: Burden| burden.is_heavier(&before)) {
                 found = Some(burden);
             }
         }
     }
-    found
-}
-
-// The list with the most winners for its counted votes, if there is a winner with a party.
-pub fn heaviest(alloc: Global, returns: &Returns) -> Result<Option<Burden>, NoMemory> {
-    let winners = winners_of_lists(alloc, returns)?;
-    Ok(heaviest_of(returns, &winners))
+    Ok(found)
 }

@@ -1,13 +1,12 @@
 //! The lots that decide a tie, and those of the returns that have no effect on it.
 
-ghost use Rattle.std.specs.Prelude.{◌≡◌};
+ghost use Rattle.sl_explain_texts.specs.Explainers.{Keeps};
+ghost use Rattle.sl_explain_texts.specs.Messages.{IsFilledBy};
 
-use crate::texts::{
-    DRAW, MISSING, NEAR_STAGE, NO_STAGE, NOT_LANDS, NOT_LISTS, NOT_PARTIES, NOT_WINNERS,
-};
-use crate::words::{item_words, land_name, party_name, stage_words, win_name};
+use crate::texts::lots as texts;
+use crate::words::{land_name, names_of, party_name, stage_words, win_name};
 use sl_base_quotients::NoMemory;
-use sl_explain_texts::{Explanation, Message, Speaker, nearest};
+use sl_explain_texts::{Explainer, Message, append, nearest};
 use sl_stages::{Item, Lot, Returns};
 use std::alloc::Global;
 
@@ -18,14 +17,6 @@ fn gives_winner(returns: &Returns, lot: &Lot, win: usize) -> bool {
     }
     let winner = returns.win(win);
     lot.land == Some(winner.land) && lot.party.is_some() && lot.party == winner.party
-}
-
-// Whether a lot gives the winner whom it names.
-fn gives_own_winner(returns: &Returns, lot: &Lot) -> bool {
-    match lot.win {
-        Some(win) => gives_winner(returns, lot, win),
-        None => false,
-    }
 }
 
 // Whether a lot gives an item.
@@ -44,324 +35,166 @@ fn is_of_shape(returns: &Returns, lot: &Lot, item: Item) -> bool {
         Item::Party(_) => lot.land.is_none() && lot.party.is_some(),
         Item::Land(_) => lot.land.is_some() && lot.party.is_none(),
         Item::List(_, _) => lot.land.is_some() && lot.party.is_some(),
-        Item::Win(_) => gives_own_winner(returns, lot),
+        Item::Win(_) => lot.win.is_some_and(|win| gives_winner(returns, lot, win)),
     }
 }
 
 // Whether a lot of a stage gives an item.
 fn is_named(returns: &Returns, stage: &[u8], item: Item) -> bool {
-    for lot in returns.lots() {
-        if lot.stage.as_bytes() == stage && gives(returns, lot, item) {
-            return true;
-        }
-    }
-    false
+    let names = |lot: &Lot| lot.stage.as_bytes() == stage && gives(returns, lot, item);
+    returns.lots().iter().any(names)
 }
 
-// The record of a lot of a stage, by the names in it.
-fn record_of(
-    alloc: Global,
-    stage: &[u8],
-    land: &[u8],
-    party: &[u8],
-    win: &[u8],
-) -> Result<Vec<u8>, NoMemory> {
-    let parts = [
-        b"lot,".as_slice(),
-        land,
-        b",",
-        party,
-        b",",
-        stage,
-        b",",
-        win,
-        b",",
-    ];
-    Ok(parts.concat(alloc)?)
-}
-
-// The record of a lot for a winner.
-fn winner_record(
-    alloc: Global,
-    returns: &Returns,
-    stage: &[u8],
-    win: usize,
-) -> Result<Vec<u8>, NoMemory> {
+// The Land, the party and the constituency of a lot for a winner.
+fn winner_fields(returns: &Returns, win: usize) -> (&[u8], &[u8], &[u8]) {
     if win >= returns.wins() {
-        return record_of(alloc, stage, b"", b"", b"");
+        return (b"", b"", b"");
     }
     let winner = returns.win(win);
-    let land = land_name(returns, winner.land);
-    let party = match winner.party {
-        Some(party) => party_name(returns, party),
-        None => b"",
-    };
-    record_of(alloc, stage, land, party, win_name(returns, win))
+    let (land, party) = (winner.land, winner.party);
+    let party = party.map_or(b"".as_slice(), |party| party_name(returns, party));
+    (land_name(returns, land), party, win_name(returns, win))
+}
+
+// The Land, the party and the constituency of a lot for an item.
+fn fields_of(returns: &Returns, item: Item) -> (&[u8], &[u8], &[u8]) {
+    match item {
+        Item::Party(party) => (b"", party_name(returns, party), b""),
+        Item::Land(land) => (land_name(returns, land), b"", b""),
+        Item::List(land, party) => (land_name(returns, land), party_name(returns, party), b""),
+        Item::Win(win) => winner_fields(returns, win),
+    }
 }
 
 // The record of a lot for an item.
 fn record(alloc: Global, returns: &Returns, stage: &[u8], item: Item) -> Result<Vec<u8>, NoMemory> {
-    match item {
-        Item::Party(party) => record_of(alloc, stage, b"", party_name(returns, party), b""),
-        Item::Land(land) => record_of(alloc, stage, land_name(returns, land), b"", b""),
-        Item::List(land, party) => {
-            let land = land_name(returns, land);
-            record_of(alloc, stage, land, party_name(returns, party), b"")
-        }
-        Item::Win(win) => winner_record(alloc, returns, stage, win),
-    }
-}
-
-// The records of the lots that decide a tie of these items.
-fn records(
-    alloc: Global,
-    returns: &Returns,
-    stage: &[u8],
-    items: &[Item],
-) -> Result<Vec<Vec<u8>>, NoMemory> {
-    let mut records = Vec::new(alloc);
-    for item in items {
-        records.push(record(alloc, returns, stage, *item)?)?;
-    }
-    Ok(records)
+    let (land, party, win) = fields_of(returns, item);
+    let mut record = Vec::new(alloc);
+    append(&mut record, &[b"lot,", land, b",", party, b","])?;
+    append(&mut record, &[stage, b",", win, b","])?;
+    Ok(record)
 }
 
 // Adds the records of the lots that decide a tie of these items.
-fn add_records(
-    speaker: Speaker,
-    returns: &Returns,
-    stage: &[u8],
-    items: &[Item],
-    explanation: &mut Explanation,
-) -> Result<(), NoMemory>
-    ensures { explanation.new.code ≡ explanation.old.code }
+fn help_draw(explainer: &mut Explainer, returns: &Returns, stage: &[u8], items: &[Item])
+    ensures { Keeps explainer.old explainer.new }
 {
-    speaker.helps(explanation, &DRAW, &[])?;
-    for record in records(speaker.alloc, returns, stage, items)? {
-        explanation.record(record)?;
+    explainer.helps(&texts::DRAW, &[]);
+    let alloc = explainer.speaker().alloc;
+    for item in items {
+        explainer.record(record(alloc, returns, stage, *item));
+    }
+}
+
+// How many lots name a stage.
+fn lots_of(lots: &[Lot], stage: &[u8]) -> usize {
+    let is_of = |lot: &&Lot| lot.stage.as_bytes() == stage;
+    lots.iter().filter(is_of).count()
+}
+
+// Adds what is said of the lots of a stage that the book does not have.
+fn help_unknown(
+    explainer: &mut Explainer,
+    stages: &[&[u8]],
+    lots: &[Lot],
+    stage: &[u8],
+) -> Result<(), NoMemory>
+    ensures { Keeps explainer.old explainer.new }
+{
+    let speaker = explainer.speaker();
+    let number = speaker.number(lots_of(lots, stage))?;
+    if let Some(near) = nearest(speaker.alloc, stage, stages)? {
+        explainer.helps(&texts::NEAR_STAGE, &[number.as_slice(), stage, near]);
+    } else {
+        let words = stage_words(speaker, stages)?;
+        let values = [number.as_slice(), stage, words.as_slice()];
+        explainer.helps(&texts::NO_STAGE, &values);
     }
     Ok(())
 }
 
-// Whether a name is one of the stages, or `seats`.
-fn is_stage(stages: &[&[u8]], name: &[u8]) -> bool {
-    for stage in stages {
-        if *stage == name {
-            return true;
-        }
-    }
-    name == b"seats".as_slice()
-}
-
-// How many lots name a stage.
-fn lots_of(lots: &[Lot], stage: &[u8]) -> u64 {
-    let mut number = 0u64;
-    for lot in lots {
-        if lot.stage.as_bytes() == stage {
-            number = number.saturating_add(1);
-        }
-    }
-    number
-}
-
-// Adds what is said of so many lots of a stage, and of what is meant or may be.
-fn add_idle(
-    speaker: Speaker,
-    message: &Message,
-    number: u64,
-    stage: &[u8],
-    meant: &[u8],
-    explanation: &mut Explanation,
-) -> Result<(), NoMemory>
-    ensures { explanation.new.code ≡ explanation.old.code }
-{
-    let digits = speaker.number(number as usize)?;
-    let name = speaker.shown(stage)?;
-    let values = [digits.as_slice(), name.as_slice(), meant];
-    speaker.helps(explanation, message, &values)
-}
-
-// Adds what is said of so many lots of a stage that the book does not have, and is near to one of it.
-fn add_near(
-    speaker: Speaker,
-    number: u64,
-    stage: &[u8],
-    near: &[u8],
-    explanation: &mut Explanation,
-) -> Result<(), NoMemory>
-    ensures { explanation.new.code ≡ explanation.old.code }
-{
-    let near = speaker.shown(near)?;
-    add_idle(
-        speaker,
-        &NEAR_STAGE,
-        number,
-        stage,
-        near.as_slice(),
-        explanation,
-    )
-}
-
-// Adds what is said of so many lots of a stage that the book does not have, and is near to none of it.
-fn add_far(
-    speaker: Speaker,
-    stages: &[&[u8]],
-    number: u64,
-    stage: &[u8],
-    explanation: &mut Explanation,
-) -> Result<(), NoMemory>
-    ensures { explanation.new.code ≡ explanation.old.code }
-{
-    let words = stage_words(speaker, stages)?;
-    add_idle(
-        speaker,
-        &NO_STAGE,
-        number,
-        stage,
-        words.as_slice(),
-        explanation,
-    )
-}
-
-// Adds what is said of the lots of a stage that the book does not have.
-fn add_unknown(
-    speaker: Speaker,
-    stages: &[&[u8]],
-    lots: &[Lot],
-    stage: &[u8],
-    explanation: &mut Explanation,
-) -> Result<(), NoMemory>
-    ensures { explanation.new.code ≡ explanation.old.code }
-{
-    let number = lots_of(lots, stage);
-    match nearest(speaker.alloc, stage, stages) {
-        Ok(Some(near)) => add_near(speaker, number, stage, near, explanation),
-        Ok(None) => add_far(speaker, stages, number, stage, explanation),
-        Err(refusal) => Err(refusal),
-    }
-}
-
 // Adds the lots of stages that the book does not have, each such stage once.
-fn add_unknown_stages(
-    speaker: Speaker,
-    stages: &[&[u8]],
-    returns: &Returns,
-    explanation: &mut Explanation,
-) -> Result<(), NoMemory>
-    ensures { explanation.new.code ≡ explanation.old.code }
+fn help_stages(explainer: &mut Explainer, stages: &[&[u8]], lots: &[Lot]) -> Result<(), NoMemory>
+    ensures { Keeps explainer.old explainer.new }
 {
-    let lots = returns.lots();
     for (place, lot) in lots.iter().enumerate() {
         let stage = lot.stage.as_bytes();
         let before = lots.get(..place).unwrap_or(&[]);
-        if !is_stage(stages, stage) && lots_of(before, stage) == 0 {
-            add_unknown(speaker, stages, lots, stage, explanation)?;
+        let is_known = stage == b"seats".as_slice() || stages.iter().any(|own| *own == stage);
+        if !is_known && lots_of(before, stage) == 0 {
+            help_unknown(explainer, stages, lots, stage)?;
         }
     }
     Ok(())
 }
 
 // How many lots of a stage give nothing of the shape of an item.
-fn lots_of_other_shape(returns: &Returns, stage: &[u8], item: Item) -> u64 {
-    let mut number = 0u64;
-    for lot in returns.lots() {
-        if lot.stage.as_bytes() == stage && !is_of_shape(returns, lot, item) {
-            number = number.saturating_add(1);
-        }
-    }
-    number
+fn lots_of_other_shape(returns: &Returns, stage: &[u8], item: Item) -> usize {
+    let is_other = |lot: &&Lot| lot.stage.as_bytes() == stage && !is_of_shape(returns, lot, item);
+    returns.lots().iter().filter(is_other).count()
 }
 
 // What is said of lots that give nothing of the shape of an item.
-fn shape_message(item: Item) -> &'static Message {
+fn shape_message(item: Item) -> &'static Message
+    ensures { IsFilledBy result.now 1 }
+{
     match item {
-        Item::Party(_) => &NOT_PARTIES,
-        Item::Land(_) => &NOT_LANDS,
-        Item::List(_, _) => &NOT_LISTS,
-        Item::Win(_) => &NOT_WINNERS,
+        Item::Party(_) => &texts::NOT_PARTIES,
+        Item::Land(_) => &texts::NOT_LANDS,
+        Item::List(_, _) => &texts::NOT_LISTS,
+        Item::Win(_) => &texts::NOT_WINNERS,
     }
 }
 
 // Adds the lots of the stage of a tie that have another shape than the tied items.
-fn add_shapes(
-    speaker: Speaker,
-    returns: &Returns,
-    stage: &[u8],
-    items: &[Item],
-    explanation: &mut Explanation,
-) -> Result<(), NoMemory>
-    ensures { explanation.new.code ≡ explanation.old.code }
+fn help_shapes(explainer: &mut Explainer, returns: &Returns, stage: &[u8], items: &[Item])
+    ensures { Keeps explainer.old explainer.new }
 {
     let Some(item) = items.first() else {
-        return Ok(());
+        return;
     };
     let number = lots_of_other_shape(returns, stage, *item);
-    if number == 0 {
-        return Ok(());
+    if number > 0 {
+        let digits = explainer.speaker().number(number);
+        explainer.helps_with(shape_message(*item), digits);
     }
-    let digits = speaker.number(number as usize)?;
-    speaker.helps(explanation, shape_message(*item), &[digits.as_slice()])
 }
 
-// Adds the names of the tied items that the lots lack.
-fn add_lacking(
-    speaker: Speaker,
-    returns: &Returns,
-    lacking: &[Item],
-    explanation: &mut Explanation,
-) -> Result<(), NoMemory>
-    ensures { explanation.new.code ≡ explanation.old.code }
-{
-    let names = item_words(speaker, returns, lacking)?;
-    speaker.helps(explanation, &MISSING, &[names.as_slice()])
-}
-
-// The items that no lot of a stage names.
-fn lacking_of(
-    alloc: Global,
+// Adds the tied items that the lots lack, where they name others of them.
+fn help_missing(
+    explainer: &mut Explainer,
     returns: &Returns,
     stage: &[u8],
     items: &[Item],
-) -> Result<Vec<Item>, NoMemory> {
-    let mut lacking = Vec::new(alloc);
+) -> Result<(), NoMemory>
+    ensures { Keeps explainer.old explainer.new }
+{
+    let speaker = explainer.speaker();
+    let mut lacking = Vec::new(speaker.alloc);
     for item in items {
         if !is_named(returns, stage, *item) {
             lacking.push(*item)?;
         }
     }
-    Ok(lacking)
-}
-
-// Adds the tied items that the lots lack, where they name others of them.
-fn add_missing(
-    speaker: Speaker,
-    returns: &Returns,
-    stage: &[u8],
-    items: &[Item],
-    explanation: &mut Explanation,
-) -> Result<(), NoMemory>
-    ensures { explanation.new.code ≡ explanation.old.code }
-{
-    let lacking = lacking_of(speaker.alloc, returns, stage, items)?;
-    if lacking.is_empty() || lacking.len() == items.len() {
-        return Ok(());
+    if !lacking.is_empty() && lacking.len() < items.len() {
+        let names = names_of(speaker, returns, lacking.as_slice());
+        explainer.helps_with(&texts::MISSING, names);
     }
-    add_lacking(speaker, returns, lacking.as_slice(), explanation)
+    Ok(())
 }
 
 // Adds the lots that decide a tie of these items, and those of the returns that have no effect on it.
-pub fn add_lots(
-    speaker: Speaker,
+pub fn help_lots(
+    explainer: &mut Explainer,
     stages: &[&[u8]],
     returns: &Returns,
     stage: &[u8],
     items: &[Item],
-    explanation: &mut Explanation,
 ) -> Result<(), NoMemory>
-    ensures { explanation.new.code ≡ explanation.old.code }
+    ensures { Keeps explainer.old explainer.new }
 {
-    add_records(speaker, returns, stage, items, explanation)?;
-    add_missing(speaker, returns, stage, items, explanation)?;
-    add_shapes(speaker, returns, stage, items, explanation)?;
-    add_unknown_stages(speaker, stages, returns, explanation)
+    help_draw(explainer, returns, stage, items);
+    help_missing(explainer, returns, stage, items)?;
+    help_shapes(explainer, returns, stage, items);
+    help_stages(explainer, stages, returns.lots())
 }

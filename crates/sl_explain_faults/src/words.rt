@@ -1,6 +1,6 @@
 //! The names of what a legal fault speaks of.
 
-use crate::texts::{ALL, LAND, LIST_OF, PARTY};
+use crate::texts::words::{ALL, LAND, LIST_OF, PARTY};
 use sl_base_quotients::NoMemory;
 use sl_explain_texts::{Speaker, append};
 use sl_stages::{Item, Returns, Scope};
@@ -58,36 +58,25 @@ fn push_item(text: &mut Vec<u8>, returns: &Returns, item: Item) -> Result<(), No
         Item::Land(land) => append(text, &[land_name(returns, land)]),
         Item::Win(win) => append(text, &[win_name(returns, win)]),
         Item::List(land, party) => {
-            append(text, &[land_name(returns, land), b"/"])?;
-            append(text, &[party_name(returns, party)])
+            let (land, party) = (land_name(returns, land), party_name(returns, party));
+            append(text, &[land, b"/", party])
         }
     }
-}
-
-// Adds the names of some items.
-fn push_items(text: &mut Vec<u8>, returns: &Returns, items: &[Item]) -> Result<(), NoMemory> {
-    let mut left = NAMED;
-    for item in items {
-        if left == 0 {
-            return append(text, &[b", .."]);
-        }
-        if left < NAMED {
-            append(text, &[b", "])?;
-        }
-        push_item(text, returns, *item)?;
-        left = left.saturating_sub(1);
-    }
-    Ok(())
 }
 
 // The names of some items, the first ones where they are many.
-pub fn item_words(
-    speaker: Speaker,
-    returns: &Returns,
-    items: &[Item],
-) -> Result<Vec<u8>, NoMemory> {
+pub fn names_of(speaker: Speaker, returns: &Returns, items: &[Item]) -> Result<Vec<u8>, NoMemory> {
     let mut text = Vec::new(speaker.alloc);
-    push_items(&mut text, returns, items)?;
+    for (place, item) in items.iter().enumerate() {
+        if place == NAMED {
+            append(&mut text, &[b", .."])?;
+            return Ok(text);
+        }
+        if place > 0 {
+            append(&mut text, &[b", "])?;
+        }
+        push_item(&mut text, returns, *item)?;
+    }
     Ok(text)
 }
 
@@ -103,8 +92,5 @@ pub fn stage_words(speaker: Speaker, stages: &[&[u8]]) -> Result<Vec<u8>, NoMemo
 
 // The name of a stage, or `seats` for the last clause.
 pub fn stage_name<'a>(stages: &[&'a [u8]], stage: usize) -> &'a [u8] {
-    match stages.get(stage) {
-        Some(name) => *name,
-        None => b"seats",
-    }
+    stages.get(stage).copied().unwrap_or(b"seats")
 }

@@ -1,44 +1,21 @@
 //! A record that is refused, with the text that it stands in, and a look at other records there.
 
-ghost use Rattle.std.specs.Prelude.{◌≡◌, IfOk, Some};
+ghost use Rattle.std.specs.Prelude.{◌≡◌, IfOk, Some, length};
+ghost use Rattle.sl_explain_texts.specs.Messages.{IsFilledBy};
 
-use crate::texts::case::{CELL, CELLS};
+use crate::texts::case::{CELL, CELLS, RECORD, TABLE};
 use csv::ByteRecord;
 use sl_base_quotients::NoMemory;
-use sl_explain_texts::{Explanation, FaultCode, Message, Span, Speaker, line_at};
-use sl_returns::{COLUMNS, Content, KIND, Kind, cell, reader_of};
+use sl_explain_texts::{Explainer, FaultCode, Message, Span, Speaker, line_at};
+use sl_returns::{COLUMNS, Content, KIND, Kind, cell, column_name, reader_of};
 use sl_returns_places::{RecordAtFault, cell_place};
 use sl_stages::Returns;
-use std::alloc::Global;
 
 // Whether a record has these cells, each by its column.
 fn has_cells(record: &ByteRecord, cells: &[(usize, &[u8])]) -> bool {
-    for (column, wanted) in cells {
-        if cell(record, *column) != *wanted {
-            return false;
-        }
-    }
-    true
-}
-
-/// The row of the first record that comes after a row and has these cells, each by its column.
-pub(crate) fn find_record(
-    alloc: Global,
-    bytes: &[u8],
-    after: u32,
-    cells: &[(usize, &[u8])],
-) -> Result<Option<u32>, NoMemory> {
-    let mut reader = reader_of(alloc, bytes);
-    let mut record = ByteRecord::new(alloc);
-    for row in 1..u32::MAX {
-        match reader.read_byte_record(&mut record) {
-            Ok(true) if row > after && has_cells(&record, cells) => return Ok(Some(row)),
-            Ok(true) => {}
-            Ok(false) => return Ok(None),
-            Err(_) => return Err(NoMemory),
-        }
-    }
-    Ok(None)
+    cells
+        .iter()
+        .all(|(column, wanted)| cell(record, *column) == *wanted)
 }
 
 /// A refused record, the text that it stands in with the returns of all its records that were taken, and the person who is spoken to.
@@ -54,6 +31,11 @@ impl Case<'_> {
     /// What the cell of a column holds, nothing where there is none.
     pub(crate) fn text(&self, column: usize) -> &[u8] {
         self.refused.cell(column)
+    }
+
+    /// The name of a column, as a value beside cells of the record.
+    pub(crate) fn name(&self, column: usize) -> &[u8] {
+        column_name(column)
     }
 
     /// The kind of the record.
@@ -83,11 +65,6 @@ impl Case<'_> {
         }
     }
 
-    /// The number of its cells in words.
-    pub(crate) fn counted_cells(&self) -> Result<Vec<u8>, NoMemory> {
-        self.speaker.counted(self.cells(), &CELL, &CELLS)
-    }
-
     /// The bytes of the cell of a column. Where there is none, the end of the text.
     pub(crate) fn at(&self, column: usize) -> Span {
         match self.refused.place(self.bytes, column) {
@@ -115,9 +92,32 @@ impl Case<'_> {
         self.between(KIND, self.cells().saturating_sub(1))
     }
 
-    /// The row of the first record before this one that has some cells, each by its column.
-    pub(crate) fn row_before(&self, cells: &[(usize, &[u8])]) -> Result<Option<u32>, NoMemory> {
-        match find_record(self.speaker.alloc, self.bytes, 0, cells)? {
+    /// The row of the first record that comes after a row and has these cells, each by its column.
+    pub(crate) fn find(
+        &self,
+        after: u32,
+        cells: &[(usize, &[u8])],
+    ) -> Result<Option<u32>, NoMemory> {
+        let mut reader = reader_of(self.speaker.alloc, self.bytes);
+        let mut record = ByteRecord::new(self.speaker.alloc);
+        for row in 1..u32::MAX {
+            match reader.read_byte_record(&mut record) {
+                Ok(true) if row > after && has_cells(&record, cells) => return Ok(Some(row)),
+                Ok(true) => {}
+                Ok(false) => return Ok(None),
+                Err(_) => return Err(NoMemory),
+            }
+        }
+        Ok(None)
+    }
+
+    /// The row of the first record before this one that has the same cells in some columns.
+    pub(crate) fn row_before(&self, columns: &[usize]) -> Result<Option<u32>, NoMemory> {
+        let mut cells = Vec::new(self.speaker.alloc);
+        for column in columns {
+            cells.push((*column, self.text(*column)))?;
+        }
+        match self.find(0, cells.as_slice())? {
             Some(row) if row < self.refused.fault.row => Ok(Some(row)),
             Some(_) | None => Ok(None),
         }
@@ -139,24 +139,50 @@ impl Case<'_> {
         message: &Message,
         values: &[&[u8]],
         span: Span,
-    ) -> Result<Explanation, NoMemory>
-        ensures { IfOk result (λ x. x.code ≡ Some code) }
+    ) -> Explainer
+        requires { IsFilledBy message.now (length values.now) }
+        ensures { result.code ≡ Some code }
     {
         self.speaker.says_at(&message.of_fault(code), values, span)
     }
 
-    /// An explanation of one sentence on some bytes, about the fault of a code, with what to do.
-    pub(crate) fn explains(
+    /// An explanation of one sentence on the cell of a column, about the fault of a code. Its values are the name of the column, what the cell holds,
+    /// in words, the cell, and two more.
+    pub(crate) fn says_of_cell<'x>(
+        &'x self,
+        code: FaultCode,
+        message: &Message,
+        column: usize,
+        words: &'x [u8],
+        more: (&'x [u8], &'x [u8]),
+    ) -> Explainer
+        requires { IsFilledBy message.now 5 }
+        ensures { result.code ≡ Some code }
+    {
+        let values = [self.name(column), words, self.text(column), more.0, more.1];
+        self.says(code, message, &values, self.at(column))
+    }
+
+    /// An explanation of one sentence on the number of cells, about the fault of a code.
+    pub(crate) fn says_count(
         &self,
         code: FaultCode,
         message: &Message,
-        values: &[&[u8]],
         span: Span,
-        remedies: &[&Message],
-    ) -> Result<Explanation, NoMemory>
+    ) -> Result<Explainer, NoMemory>
+        requires { IsFilledBy message.now 1 }
         ensures { IfOk result (λ x. x.code ≡ Some code) }
     {
-        self.speaker
-            .explains_at(&message.of_fault(code), values, span, remedies)
+        let count = self.speaker.counted(self.cells(), &CELL, &CELLS)?;
+        Ok(self.says(code, message, &[count.as_slice()], span))
+    }
+
+    /// The explanation of the record where nothing else can be said of it, about the fault of a code.
+    pub(crate) fn explains_row(&self, code: FaultCode) -> Result<Explainer, NoMemory>
+        ensures { IfOk result (λ x. x.code ≡ Some code) }
+    {
+        let row = self.speaker.number(self.refused.fault.row as usize)?;
+        let explainer = self.says(code, &RECORD, &[row.as_slice()], self.whole());
+        Ok(explainer.helped(&TABLE, &[]))
     }
 }

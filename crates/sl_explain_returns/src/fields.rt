@@ -1,30 +1,28 @@
 //! Records with too many or too few cells, and cells that are filled or empty against their kind.
 
 ghost use Rattle.std.specs.Prelude.{◌≡◌, IfOk, Some};
+ghost use Rattle.sl_explain_texts.specs.Messages.{IsFilledBy};
 ghost use Rattle.sl_explain_texts.specs.declared.code.FaultCode.TheVariants.{R02};
 
 use crate::case::Case;
 use crate::digits::are_digits;
-use crate::texts::fields::{
-    DELETE, EMPTY_THE_CELL, FILLED, HOUSE_FORM, JOIN, LAND_FORM, LIST_FORM, LOT_FORMS,
-    LOT_WITHOUT_WINNER, NO_ENTRY, NO_FORM, NO_SEATS, NO_SLATE, PARTY_FORM, RECORD_CELLS,
-    RECORD_COMMENT, RECORD_PIPES, RECORD_SEMICOLONS, RECORD_TABS, RECORD_TRAILING, REPLACE, SECOND,
-    SHORTEN_RECORD, SPLIT, WIN_FORM,
-};
+use crate::texts::fields as texts;
 use sl_base_quotients::NoMemory;
-use sl_explain_texts::{Explanation, FaultCode, Message, Span};
-use sl_returns::{A, B, C, COLUMNS, Content, KIND, Kind, LAND, PARTY, column_name};
+use sl_explain_texts::{Explainer, FaultCode, Message, Span};
+use sl_returns::{A, B, C, COLUMNS, Content, KIND, Kind, LAND, PARTY};
 
 /// The form of a kind.
-pub(crate) fn form_of_kind(kind: Option<Kind>) -> &'static Message {
+pub(crate) fn form_of_kind(kind: Option<Kind>) -> &'static Message
+    ensures { IsFilledBy result.now 0 }
+{
     match kind {
-        Some(Kind::House) => &HOUSE_FORM,
-        Some(Kind::Land) => &LAND_FORM,
-        Some(Kind::Party) => &PARTY_FORM,
-        Some(Kind::List) => &LIST_FORM,
-        Some(Kind::Win) => &WIN_FORM,
-        Some(Kind::Lot) => &LOT_FORMS,
-        None => &NO_FORM,
+        Some(Kind::House) => &texts::HOUSE_FORM,
+        Some(Kind::Land) => &texts::LAND_FORM,
+        Some(Kind::Party) => &texts::PARTY_FORM,
+        Some(Kind::List) => &texts::LIST_FORM,
+        Some(Kind::Win) => &texts::WIN_FORM,
+        Some(Kind::Lot) => &texts::LOT_FORMS,
+        None => &texts::NO_FORM,
     }
 }
 
@@ -64,78 +62,69 @@ fn is_separated_by(case: &Case<'_>, mark: u8) -> bool {
 }
 
 // What is said of a wrong number of cells, what to do, and the bytes spoken of.
-fn count_messages(case: &Case<'_>) -> (&'static Message, &'static Message, Span) {
+fn count_messages(case: &Case<'_>) -> (&'static Message, &'static Message, Span)
+    ensures { IsFilledBy result.0.now 1 × IsFilledBy result.1.now 0 }
+{
     if case.text(KIND).starts_with(b"#") {
-        (&RECORD_COMMENT, &DELETE, case.whole())
+        (&texts::RECORD_COMMENT, &texts::DELETE, case.whole())
     } else if is_separated_by(case, b';') {
-        (&RECORD_SEMICOLONS, &REPLACE, case.whole())
+        (&texts::RECORD_SEMICOLONS, &texts::REPLACE, case.whole())
     } else if is_separated_by(case, b'\t') {
-        (&RECORD_TABS, &REPLACE, case.whole())
+        (&texts::RECORD_TABS, &texts::REPLACE, case.whole())
     } else if is_separated_by(case, b'|') {
-        (&RECORD_PIPES, &REPLACE, case.whole())
+        (&texts::RECORD_PIPES, &texts::REPLACE, case.whole())
     } else if is_trailing(case) {
-        (&RECORD_TRAILING, &SHORTEN_RECORD, case.at(COLUMNS))
+        (
+            &texts::RECORD_TRAILING,
+            &texts::SHORTEN_RECORD,
+            case.at(COLUMNS),
+        )
     } else if let Some(column) = split_number(case) {
-        (&SPLIT, &JOIN, case.at(column))
+        (&texts::SPLIT, &texts::JOIN, case.at(column))
     } else {
-        (&RECORD_CELLS, form_of_kind(case.kind()), case.whole())
+        (
+            &texts::RECORD_CELLS,
+            form_of_kind(case.kind()),
+            case.whole(),
+        )
     }
 }
 
-// A record without six cells.
-fn explain_count(case: &Case<'_>) -> Result<Explanation, NoMemory>
-    ensures { IfOk result (λ x. x.code ≡ Some R02) }
-{
-    let (sentence, remedy, span) = count_messages(case);
-    let count = case.counted_cells()?;
-    case.explains(
-        FaultCode::R02,
-        sentence,
-        &[count.as_slice()],
-        span,
-        &[remedy],
-    )
-}
-
 // A cell that must be empty.
-fn explain_filled(
-    case: &Case<'_>,
-    column: usize,
-    sentence: &Message,
-    remedy: &'static Message,
-) -> Result<Explanation, NoMemory>
-    ensures { IfOk result (λ x. x.code ≡ Some R02) }
+fn explain_filled(case: &Case<'_>, column: usize, sentence: &Message, remedy: &Message) -> Explainer
+    requires { IsFilledBy sentence.now 2 × IsFilledBy remedy.now 0 }
+    ensures { result.code ≡ Some R02 }
 {
-    let word = case.speaker.shown(case.text(KIND))?;
-    let values = [column_name(column), word.as_slice()];
-    let remedies = [remedy, form_of_kind(case.kind())];
-    case.explains(
-        FaultCode::R02,
-        sentence,
-        &values,
-        case.at(column),
-        &remedies,
-    )
+    let values = [case.name(column), case.text(KIND)];
+    case.says(FaultCode::R02, sentence, &values, case.at(column))
+        .helped(remedy, &[])
+        .helped(form_of_kind(case.kind()), &[])
 }
 
 // What is said of a lot that names nothing, or a constituency against its stage.
-fn lot_message(case: &Case<'_>) -> &'static Message {
+fn lot_message(case: &Case<'_>) -> &'static Message
+    ensures { IsFilledBy result.now 0 }
+{
     if case.text(LAND).is_empty() && case.text(PARTY).is_empty() {
-        &NO_ENTRY
+        &texts::NO_ENTRY
     } else if case.text(A) == b"seats".as_slice() {
-        &LOT_WITHOUT_WINNER
+        &texts::LOT_WITHOUT_WINNER
     } else {
-        &NO_SEATS
+        &texts::NO_SEATS
     }
 }
 
 // A cell that is filled or empty against its kind.
-fn explain_cell(case: &Case<'_>, column: usize) -> Result<Explanation, NoMemory>
-    ensures { IfOk result (λ x. x.code ≡ Some R02) }
+fn explain_cell(case: &Case<'_>, column: usize) -> Explainer
+    ensures { result.code ≡ Some R02 }
 {
     match case.content(column) {
-        Some(Content::Blank) => explain_filled(case, column, &FILLED, &EMPTY_THE_CELL),
-        Some(Content::NumberOrNone(_)) => explain_filled(case, column, &NO_SLATE, &SECOND),
+        Some(Content::Blank) => {
+            explain_filled(case, column, &texts::FILLED, &texts::EMPTY_THE_CELL)
+        }
+        Some(Content::NumberOrNone(_)) => {
+            explain_filled(case, column, &texts::NO_SLATE, &texts::SECOND)
+        }
         Some(
             Content::Kind
             | Content::NewName(_)
@@ -144,25 +133,22 @@ fn explain_cell(case: &Case<'_>, column: usize) -> Result<Explanation, NoMemory>
             | Content::StageName
             | Content::Number(_),
         )
-        | None => case.explains(
-            FaultCode::R02,
-            lot_message(case),
-            &[],
-            case.at(column),
-            &[&LOT_FORMS],
-        ),
+        | None => case
+            .says(FaultCode::R02, lot_message(case), &[], case.at(column))
+            .helped(&texts::LOT_FORMS, &[]),
     }
 }
 
 /// The explanation of a record with the wrong number of cells, or of a cell that is filled or empty against its kind.
-pub(crate) fn explain_fields(
-    case: &Case<'_>,
-    column: Option<usize>,
-) -> Result<Explanation, NoMemory>
+pub(crate) fn explain_fields(case: &Case<'_>, column: Option<usize>) -> Result<Explainer, NoMemory>
     ensures { IfOk result (λ x. x.code ≡ Some R02) }
 {
     match column {
-        Some(column) => explain_cell(case, column),
-        None => explain_count(case),
+        Some(column) => Ok(explain_cell(case, column)),
+        None => {
+            let (sentence, remedy, span) = count_messages(case);
+            let explainer = case.says_count(FaultCode::R02, sentence, span)?;
+            Ok(explainer.helped(remedy, &[]))
+        }
     }
 }

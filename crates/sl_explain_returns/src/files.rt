@@ -1,27 +1,12 @@
 //! Files that are no returns at all.
 
-ghost use Rattle.std.specs.Prelude.{◌≡◌, IfOk, Some};
+ghost use Rattle.std.specs.Prelude.{◌≡◌, IfSome, Some};
 ghost use Rattle.sl_explain_texts.specs.declared.code.FaultCode.TheVariants.{R01};
+ghost use Rattle.sl_explain_texts.specs.Messages.{IsFilledBy};
 
-use crate::texts::files::{
-    BINARY, BOOK, CODE, EMPTY_FILE, NO_PATH, ORDER, PACKED, RUN, SAVE, SAVE_OR_UNPACK, UNPACK,
-    UTF16, WORKBOOK, ZIPPED,
-};
-use sl_base_quotients::NoMemory;
-use sl_explain_texts::{Explanation, FaultCode, Message, Span, Speaker, first_line, packing_of};
-
-/// What a file is that is no text of cells, by its first bytes.
-#[derive(Clone, Copy)]
-pub(crate) enum FileKind {
-    Empty,
-    Utf16,
-    /// Compressed so.
-    Packed(&'static str),
-    Workbook,
-    Code,
-    Book,
-    Binary,
-}
+use crate::case::Case;
+use crate::texts::files as texts;
+use sl_explain_texts::{Explainer, FaultCode, Message, Span, first_line, packing_of};
 
 // The text after its first line.
 fn after_line(text: &[u8]) -> &[u8] {
@@ -49,65 +34,53 @@ fn is_utf16(bytes: &[u8]) -> bool {
     has_mark || bytes.iter().take(2).any(|byte| *byte == 0)
 }
 
-/// What a file is, if it is no text of cells.
-pub(crate) fn foreign_kind(bytes: &[u8]) -> Option<FileKind> {
+// What is said of a file that is no text, and what to do, by its first bytes.
+fn file_messages(bytes: &[u8]) -> Option<(&'static Message, &'static Message)>
+    ensures { IfSome result (λ x. IsFilledBy x.0.now 1 × IsFilledBy x.1.now 0) }
+{
     if bytes.trim_ascii().is_empty() || bytes == b"\xEF\xBB\xBF".as_slice() {
-        Some(FileKind::Empty)
-    } else if let Some(packing) = packing_of(bytes) {
-        Some(FileKind::Packed(packing))
+        Some((&texts::EMPTY_FILE, &texts::NO_PATH))
+    } else if packing_of(bytes) == Some("zip") {
+        Some((&texts::ZIPPED, &texts::SAVE_OR_UNPACK))
+    } else if packing_of(bytes).is_some() {
+        Some((&texts::PACKED, &texts::UNPACK))
     } else if bytes.starts_with(b"\xD0\xCF\x11\xE0") {
-        Some(FileKind::Workbook)
+        Some((&texts::WORKBOOK, &texts::SAVE))
     } else if bytes.starts_with(b"SLC") {
-        Some(FileKind::Code)
+        Some((&texts::CODE, &texts::RUN))
     } else if is_utf16(bytes) {
-        Some(FileKind::Utf16)
+        Some((&texts::UTF16, &texts::SAVE))
     } else if bytes.iter().take(64).any(|byte| *byte == 0) {
-        Some(FileKind::Binary)
-    } else if is_book(bytes) {
-        Some(FileKind::Book)
+        Some((&texts::BINARY, &texts::NO_PATH))
     } else {
         None
     }
 }
 
-impl FileKind {
-    // What is said of such a file, and what to do.
-    fn messages(self) -> (&'static Message, &'static Message) {
-        match self {
-            FileKind::Empty => (&EMPTY_FILE, &NO_PATH),
-            FileKind::Utf16 => (&UTF16, &SAVE),
-            FileKind::Packed("zip") => (&ZIPPED, &SAVE_OR_UNPACK),
-            FileKind::Packed(_) => (&PACKED, &UNPACK),
-            FileKind::Workbook => (&WORKBOOK, &SAVE),
-            FileKind::Code => (&CODE, &RUN),
-            FileKind::Book => (&BOOK, &ORDER),
-            FileKind::Binary => (&BINARY, &NO_PATH),
-        }
-    }
+// A rulebook, at its first line.
+fn explain_book(case: &Case<'_>) -> Explainer
+    ensures { result.code ≡ Some R01 }
+{
+    let span = Span {
+        start: 0,
+        end: first_line(case.bytes).len(),
+    };
+    case.says(FaultCode::R01, &texts::BOOK, &[], span)
+        .helped(&texts::ORDER, &[])
+}
 
-    // The value of what is said.
-    fn value(self) -> &'static [u8] {
-        match self {
-            FileKind::Packed(packing) => packing.as_bytes(),
-            _ => &[],
-        }
-    }
-
-    /// The explanation of such a file, at the first line of a rulebook.
-    pub(crate) fn explain(self, speaker: Speaker, bytes: &[u8]) -> Result<Explanation, NoMemory>
-        ensures { IfOk result (λ x. x.code ≡ Some R01) }
-    {
-        let (message, remedy) = self.messages();
-        let sentence = message.of_fault(FaultCode::R01);
-        match self {
-            FileKind::Book => {
-                let span = Span {
-                    start: 0,
-                    end: first_line(bytes).len(),
-                };
-                speaker.explains_at(&sentence, &[], span, &[remedy])
-            }
-            _ => speaker.explains(&sentence, &[self.value()], &[remedy]),
-        }
-    }
+/// The explanation of a file that is no text of cells or has no record, if it is one.
+pub(crate) fn explain_file(case: &Case<'_>) -> Option<Explainer>
+    ensures { IfSome result (λ x. x.code ≡ Some R01) }
+{
+    let (message, remedy) = match file_messages(case.bytes) {
+        Some(messages) => messages,
+        None if is_book(case.bytes) => return Some(explain_book(case)),
+        None if case.refused.record.is_empty() => (&texts::EMPTY_FILE, &texts::NO_PATH),
+        None => return None,
+    };
+    let packing = packing_of(case.bytes).unwrap_or("");
+    let sentence = message.of_fault(FaultCode::R01);
+    let explainer = case.speaker.says(&sentence, &[packing.as_bytes()]);
+    Some(explainer.helped(remedy, &[]))
 }

@@ -123,33 +123,25 @@ fn form_by_groups(cell: &[u8]) -> Form {
     }
 }
 
-// Whether a byte may stand in a number with an exponent, in addition to its E.
+// Whether a cell begins with a digit.
+fn begins_number(cell: &[u8]) -> bool {
+    cell.first().is_some_and(|byte| byte.is_ascii_digit())
+}
+
+// Whether a byte may stand in a number with an exponent.
 fn is_numeral(byte: u8) -> bool {
-    byte.is_ascii_digit() || b".,+-".contains(&byte)
+    byte.is_ascii_digit() || b".,+-Ee".contains(&byte)
 }
 
 // Whether a cell is digits with an exponent, as 3E5 or 3.1e+05.
 fn is_exponent(cell: &[u8]) -> bool {
-    let mut has_exponent = false;
-    for byte in cell {
-        if *byte == b'E' || *byte == b'e' {
-            has_exponent = true;
-        } else if !is_numeral(*byte) {
-            return false;
-        }
-    }
-    match cell.first() {
-        Some(first) => has_exponent && first.is_ascii_digit(),
-        None => false,
-    }
+    let has_exponent = cell.contains(&b'E') || cell.contains(&b'e');
+    has_exponent && begins_number(cell) && cell.iter().all(|byte| is_numeral(*byte))
 }
 
 // Whether a cell is digits after a sign.
 fn are_signed(cell: &[u8], sign: &[u8]) -> bool {
-    match cell.strip_prefix(sign) {
-        Some(rest) => are_digits(rest),
-        None => false,
-    }
+    cell.strip_prefix(sign).is_some_and(are_digits)
 }
 
 // Whether a cell is digits after a minus, as a keyboard, a typesetter or a spreadsheet writes it.
@@ -159,20 +151,12 @@ fn is_negative(cell: &[u8]) -> bool {
 
 // Whether a cell is a number with a percent sign after it.
 fn is_percentage(cell: &[u8]) -> bool {
-    match cell.first() {
-        Some(first) => first.is_ascii_digit() && cell.ends_with(b"%"),
-        None => false,
-    }
+    begins_number(cell) && cell.ends_with(b"%")
 }
 
 // Whether a cell stands for a missing value.
 fn is_missing(cell: &[u8]) -> bool {
-    for word in MISSING {
-        if cell.eq_ignore_ascii_case(word) {
-            return true;
-        }
-    }
-    false
+    MISSING.iter().any(|word| cell.eq_ignore_ascii_case(word))
 }
 
 /// What a cell looks like that is no number.

@@ -1,19 +1,16 @@
 //! Returns that do not begin with the header.
 
-ghost use Rattle.std.specs.Prelude.{◌≡◌, IfOk, Some};
+ghost use Rattle.std.specs.Prelude.{◌≡◌, IfOk, IfSome, Some};
 ghost use Rattle.sl_explain_texts.specs.declared.code.FaultCode.TheVariants.{R01};
+ghost use Rattle.sl_explain_texts.specs.Messages.{IsFilledBy};
 
 use crate::case::Case;
-use crate::files::{FileKind, foreign_kind};
+use crate::files::explain_file;
 use crate::quotes::explain_quote;
 use crate::texts::fields::DELETE;
-use crate::texts::header::{
-    ADD, COUNT, EXPECTED, HEADER_COMMENT, HEADER_PIPES, HEADER_SEMICOLONS, HEADER_TABS,
-    HEADER_TRAILING, NO_HEADER, NO_NAMES, NUMBERED, OFFICE, OTHER_HEADER, REPLACE_PIPES,
-    REPLACE_SEMICOLONS, REPLACE_TABS, SEP, SHEETS, SHORTEN_HEADER, SPELLING, WIDE,
-};
+use crate::texts::header as texts;
 use sl_base_quotients::NoMemory;
-use sl_explain_texts::{Explanation, FaultCode, Message, Span, first_line};
+use sl_explain_texts::{Explainer, FaultCode, Message, Span, first_line};
 use sl_returns::{COLUMNS, KIND, Kind, column_name};
 
 // Marks that separate cells in place of commas.
@@ -38,13 +35,7 @@ const LOOKED_AT: usize = 2048;
 
 // How often a byte stands in a line.
 fn times(line: &[u8], mark: u8) -> usize {
-    let mut number = 0usize;
-    for byte in line {
-        if *byte == mark {
-            number = number.saturating_add(1);
-        }
-    }
-    number
+    line.iter().filter(|byte| **byte == mark).count()
 }
 
 // Whether a cell is that of the header, but for blanks and capitals.
@@ -81,12 +72,7 @@ fn separator_of(line: &[u8]) -> Option<u8> {
 
 // What a line has before the first of such marks.
 fn before(line: &[u8], mark: u8) -> &[u8] {
-    for (place, byte) in line.iter().enumerate() {
-        if *byte == mark {
-            return &line[..place];
-        }
-    }
-    line
+    line.split(|byte| *byte == mark).next().unwrap_or(line)
 }
 
 // Whether the first cell of a table is called so, and not that of returns.
@@ -97,59 +83,61 @@ fn heads_table(cell: &[u8]) -> bool {
 
 // Whether a text is a table of the election office: near its beginning it speaks of `Gebiet`.
 fn is_office(bytes: &[u8]) -> bool {
-    for place in 0..bytes.len().min(LOOKED_AT) {
-        if bytes[place..].starts_with(b"Gebiet") {
-            return true;
-        }
-    }
-    false
+    let mut parts = bytes.windows(b"Gebiet".len()).take(LOOKED_AT);
+    parts.any(|part| part == b"Gebiet".as_slice())
 }
 
 // What is said of a line with another mark than commas, and what to do.
-fn mark_messages(line: &[u8], mark: u8) -> (&'static Message, &'static Message) {
+fn mark_messages(line: &[u8], mark: u8) -> (&'static Message, &'static Message)
+    ensures { IsFilledBy result.0.now 1 × IsFilledBy result.1.now 0 }
+{
     let first = before(line, mark);
     if heads_table(first) {
-        (&WIDE, &SHEETS)
+        (&texts::WIDE, &texts::SHEETS)
     } else if mark == b';' && !begins_returns(first) {
-        (&HEADER_SEMICOLONS, &SHEETS)
+        (&texts::HEADER_SEMICOLONS, &texts::SHEETS)
     } else if mark == b';' {
-        (&HEADER_SEMICOLONS, &REPLACE_SEMICOLONS)
+        (&texts::HEADER_SEMICOLONS, &texts::REPLACE_SEMICOLONS)
     } else if mark == b'\t' {
-        (&HEADER_TABS, &REPLACE_TABS)
+        (&texts::HEADER_TABS, &texts::REPLACE_TABS)
     } else {
-        (&HEADER_PIPES, &REPLACE_PIPES)
+        (&texts::HEADER_PIPES, &texts::REPLACE_PIPES)
     }
 }
 
 // What is said of a first line that is no line of cells with commas between them, and what to do.
-fn foreign_messages(case: &Case<'_>, line: &[u8]) -> Option<(&'static Message, &'static Message)> {
+fn foreign_messages(case: &Case<'_>, line: &[u8]) -> Option<(&'static Message, &'static Message)>
+    ensures { IfSome result (λ x. IsFilledBy x.0.now 1 × IsFilledBy x.1.now 0) }
+{
     if is_office(case.bytes) {
-        return Some((&OFFICE, &SHEETS));
+        return Some((&texts::OFFICE, &texts::SHEETS));
     }
     if line.starts_with(b"sep=") || line.starts_with(b"SEP=") {
-        return Some((&SEP, &DELETE));
+        return Some((&texts::SEP, &DELETE));
     }
     if case.text(KIND).starts_with(b"#") {
-        return Some((&HEADER_COMMENT, &DELETE));
+        return Some((&texts::HEADER_COMMENT, &DELETE));
     }
     match separator_of(line) {
         Some(mark) => Some(mark_messages(line, mark)),
-        None if heads_table(case.text(KIND)) => Some((&WIDE, &SHEETS)),
+        None if heads_table(case.text(KIND)) => Some((&texts::WIDE, &texts::SHEETS)),
         None => None,
     }
 }
 
 // What is said of a first line that is a record, or nearly the header, and what to do.
-fn near_messages(case: &Case<'_>) -> Option<(&'static Message, &'static Message)> {
+fn near_messages(case: &Case<'_>) -> Option<(&'static Message, &'static Message)>
+    ensures { IfSome result (λ x. IsFilledBy x.0.now 0 × IsFilledBy x.1.now 0) }
+{
     let has_seven = case.cells() == 7;
     if Kind::named(case.text(KIND).trim_ascii()).is_some() {
-        Some((&NO_HEADER, &ADD))
+        Some((&texts::NO_HEADER, &texts::ADD))
     } else if has_seven && case.text(COLUMNS).is_empty() {
-        Some((&HEADER_TRAILING, &SHORTEN_HEADER))
+        Some((&texts::HEADER_TRAILING, &texts::SHORTEN_HEADER))
     } else if has_seven && is_nearly(case.text(1), b"kind") {
-        Some((&NUMBERED, &NO_NAMES))
+        Some((&texts::NUMBERED, &texts::NO_NAMES))
     } else if is_misspelt(case) {
-        Some((&SPELLING, &EXPECTED))
+        Some((&texts::SPELLING, &texts::EXPECTED))
     } else {
         None
     }
@@ -167,44 +155,29 @@ fn first_other(case: &Case<'_>) -> usize {
 }
 
 // A first cell of the header that differs.
-fn explain_other(case: &Case<'_>) -> Result<Explanation, NoMemory>
-    ensures { IfOk result (λ x. x.code ≡ Some R01) }
+fn explain_other(case: &Case<'_>) -> Explainer
+    ensures { result.code ≡ Some R01 }
 {
     let column = first_other(case);
-    let shown = case.speaker.shown(case.text(column))?;
-    let values = [shown.as_slice(), column_name(column)];
-    case.explains(
-        FaultCode::R01,
-        &OTHER_HEADER,
-        &values,
-        case.at(column),
-        &[&EXPECTED],
-    )
-}
-
-// Another number of cells than six.
-fn explain_count(case: &Case<'_>, span: Span) -> Result<Explanation, NoMemory>
-    ensures { IfOk result (λ x. x.code ≡ Some R01) }
-{
-    let count = case.counted_cells()?;
-    case.explains(
-        FaultCode::R01,
-        &COUNT,
-        &[count.as_slice()],
-        span,
-        &[&EXPECTED],
-    )
+    let values = [case.text(column), case.name(column)];
+    let span = case.at(column);
+    case.says(FaultCode::R01, &texts::OTHER_HEADER, &values, span)
 }
 
 // A first line of cells that is no header.
-fn explain_cells(case: &Case<'_>, span: Span) -> Result<Explanation, NoMemory>
+fn explain_cells(case: &Case<'_>, span: Span) -> Result<Explainer, NoMemory>
     ensures { IfOk result (λ x. x.code ≡ Some R01) }
 {
-    match near_messages(case) {
-        Some((sentence, remedy)) => case.explains(FaultCode::R01, sentence, &[], span, &[remedy]),
-        None if case.cells() != COLUMNS => explain_count(case, span),
-        None => explain_other(case),
+    if let Some((sentence, remedy)) = near_messages(case) {
+        let explainer = case.says(FaultCode::R01, sentence, &[], span);
+        return Ok(explainer.helped(remedy, &[]));
     }
+    let explainer = if case.cells() == COLUMNS {
+        explain_other(case)
+    } else {
+        case.says_count(FaultCode::R01, &texts::COUNT, span)?
+    };
+    Ok(explainer.helped(&texts::EXPECTED, &[]))
 }
 
 // The line in which the record begins.
@@ -219,45 +192,29 @@ fn first_of<'a>(case: &Case<'a>) -> (&'a [u8], Span) {
 }
 
 // A first line that is text and no header.
-fn explain_line(case: &Case<'_>) -> Result<Explanation, NoMemory>
+fn explain_line(case: &Case<'_>) -> Result<Explainer, NoMemory>
     ensures { IfOk result (λ x. x.code ≡ Some R01) }
 {
     let (line, span) = first_of(case);
     match foreign_messages(case, line) {
-        Some((sentence, remedy)) => {
-            let shown = case.speaker.shown(line)?;
-            let remedies = [remedy, &EXPECTED];
-            case.explains(
-                FaultCode::R01,
-                sentence,
-                &[shown.as_slice()],
-                span,
-                &remedies,
-            )
-        }
+        Some((sentence, remedy)) => Ok(
+            case.says(FaultCode::R01, sentence, &[line], span)
+                .helped(remedy, &[])
+                .helped(&texts::EXPECTED, &[]),
+        ),
         None => explain_cells(case, span),
     }
 }
 
-// A text whose first record is not the header.
-fn explain_text(case: &Case<'_>) -> Result<Explanation, NoMemory>
-    ensures { IfOk result (λ x. x.code ≡ Some R01) }
-{
-    if case.refused.record.is_empty() {
-        return FileKind::Empty.explain(case.speaker, case.bytes);
-    }
-    match explain_quote(case, FaultCode::R01)? {
-        Some(explanation) => Ok(explanation),
-        None => explain_line(case),
-    }
-}
-
 /// The explanation of returns whose first record is not the header.
-pub(crate) fn explain_header(case: &Case<'_>) -> Result<Explanation, NoMemory>
+pub(crate) fn explain_header(case: &Case<'_>) -> Result<Explainer, NoMemory>
     ensures { IfOk result (λ x. x.code ≡ Some R01) }
 {
-    match foreign_kind(case.bytes) {
-        Some(kind) => kind.explain(case.speaker, case.bytes),
-        None => explain_text(case),
+    if let Some(explainer) = explain_file(case) {
+        return Ok(explainer);
+    }
+    match explain_quote(case, FaultCode::R01) {
+        Some(explainer) => Ok(explainer),
+        None => explain_line(case),
     }
 }

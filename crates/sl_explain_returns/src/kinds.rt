@@ -1,16 +1,14 @@
 //! Records of no kind.
 
-ghost use Rattle.std.specs.Prelude.{◌≡◌, IfOk, Some};
+ghost use Rattle.std.specs.Prelude.{◌≡◌, IfOk, IfSome, Some};
+ghost use Rattle.sl_explain_texts.specs.Messages.{IsFilledBy};
 ghost use Rattle.sl_explain_texts.specs.declared.code.FaultCode.TheVariants.{R03, R11};
 
 use crate::case::Case;
 use crate::texts::fields::DELETE;
-use crate::texts::kinds::{
-    ADD_LAND, AGAIN, DELETE_ROWS, EMPTY_ROW, KIND_COMMENT, KINDS, NEAREST_KIND, NO_KIND,
-    NO_LAND_RECORD, OTHER_KIND,
-};
+use crate::texts::kinds as texts;
 use sl_base_quotients::NoMemory;
-use sl_explain_texts::{Explanation, FaultCode, Message, nearest};
+use sl_explain_texts::{Explainer, FaultCode, Message, nearest};
 use sl_returns::{COLUMNS, KIND, Kind};
 
 // Other words for the kinds, in small letters, and the kinds that they mean.
@@ -37,12 +35,8 @@ const WORDS: [(&[u8], &[u8]); 18] = [
 
 // The kind that another word means.
 fn meant_by(cell: &[u8]) -> Option<&'static [u8]> {
-    for (word, kind) in WORDS {
-        if cell.eq_ignore_ascii_case(word) {
-            return Some(kind);
-        }
-    }
-    None
+    let meant = WORDS.iter().find(|row| cell.eq_ignore_ascii_case(row.0))?;
+    Some(meant.1)
 }
 
 // The kind that a word means, or to which it is near.
@@ -53,86 +47,47 @@ fn likely_kind(case: &Case<'_>, cell: &[u8]) -> Result<Option<&'static [u8]>, No
     }
 }
 
-// Whether all cells of the record are empty.
-fn is_empty_row(case: &Case<'_>) -> bool {
-    for column in 0..COLUMNS {
-        if !case.text(column).is_empty() {
-            return false;
-        }
-    }
-    true
-}
-
-// What is said of the first cell.
-fn sentence(case: &Case<'_>) -> &'static Message {
+// What is said of the first cell, and what to do where no kind is meant.
+fn messages(case: &Case<'_>) -> (&'static Message, Option<&'static Message>)
+    ensures { IsFilledBy result.0.now 1 × IfSome result.1 (λ x. IsFilledBy x.now 0) }
+{
     let cell = case.text(KIND);
-    if is_empty_row(case) {
-        &EMPTY_ROW
+    if (0..COLUMNS).all(|column| case.text(column).is_empty()) {
+        (&texts::EMPTY_ROW, Some(&texts::DELETE_ROWS))
     } else if cell.is_empty() {
-        &NO_KIND
+        (&texts::NO_KIND, None)
     } else if cell == b"kind".as_slice() || cell == b"kind2".as_slice() {
-        &AGAIN
+        (&texts::AGAIN, Some(&DELETE))
     } else if cell.starts_with(b"#") {
-        &KIND_COMMENT
+        (&texts::KIND_COMMENT, Some(&DELETE))
+    } else if cell.starts_with(b"kind") {
+        (&texts::OTHER_KIND, Some(&DELETE))
     } else {
-        &OTHER_KIND
+        (&texts::OTHER_KIND, None)
     }
-}
-
-// Adds what to do with a first cell that names no kind.
-fn add_kinds(case: &Case<'_>, explanation: &mut Explanation) -> Result<(), NoMemory>
-    ensures { explanation.new.code ≡ explanation.old.code }
-{
-    let speaker = case.speaker;
-    let cell = case.text(KIND).trim_ascii();
-    match likely_kind(case, cell)? {
-        Some(word) => speaker.helps(explanation, &NEAREST_KIND, &[word]),
-        None => speaker.helps(explanation, &KINDS, &[]),
-    }
-}
-
-// Adds what to do with the record.
-fn add_remedy(case: &Case<'_>, explanation: &mut Explanation) -> Result<(), NoMemory>
-    ensures { explanation.new.code ≡ explanation.old.code }
-{
-    let speaker = case.speaker;
-    let cell = case.text(KIND);
-    if is_empty_row(case) {
-        speaker.helps(explanation, &DELETE_ROWS, &[])
-    } else if cell.starts_with(b"kind") || cell.starts_with(b"#") {
-        speaker.helps(explanation, &DELETE, &[])
-    } else {
-        add_kinds(case, explanation)
-    }
-}
-
-// That the first cell is no kind.
-fn says_kind(case: &Case<'_>) -> Result<Explanation, NoMemory>
-    ensures { IfOk result (λ x. x.code ≡ Some R03) }
-{
-    let shown = case.speaker.shown(case.text(KIND))?;
-    let values = [shown.as_slice()];
-    case.says(FaultCode::R03, sentence(case), &values, case.at(KIND))
 }
 
 /// The explanation of a record whose first cell is no kind.
-pub(crate) fn explain_kind(case: &Case<'_>) -> Result<Explanation, NoMemory>
+pub(crate) fn explain_kind(case: &Case<'_>) -> Result<Explainer, NoMemory>
     ensures { IfOk result (λ x. x.code ≡ Some R03) }
 {
-    let mut explanation = says_kind(case)?;
-    add_remedy(case, &mut explanation)?;
-    Ok(explanation)
+    let cell = case.text(KIND);
+    let (sentence, remedy) = messages(case);
+    let mut explainer = case.says(FaultCode::R03, sentence, &[cell], case.at(KIND));
+    if let Some(remedy) = remedy {
+        explainer.helps(remedy, &[]);
+    } else if let Some(word) = likely_kind(case, cell.trim_ascii())? {
+        explainer.helps(&texts::NEAREST_KIND, &[word]);
+    } else {
+        explainer.helps(&texts::KINDS, &[]);
+    }
+    Ok(explainer)
 }
 
 /// The explanation of returns without a Land, at their last record.
-pub(crate) fn explain_no_land(case: &Case<'_>) -> Result<Explanation, NoMemory>
-    ensures { IfOk result (λ x. x.code ≡ Some R11) }
+pub(crate) fn explain_no_land(case: &Case<'_>) -> Explainer
+    ensures { result.code ≡ Some R11 }
 {
-    case.explains(
-        FaultCode::R11,
-        &NO_LAND_RECORD,
-        &[],
-        case.whole(),
-        &[&ADD_LAND],
-    )
+    case.says(FaultCode::R11, &texts::NO_LAND_RECORD, &[], case.whole())
+        .helped(&texts::ADD_LAND, &[])
 }

@@ -44,12 +44,7 @@ fn push_letters(name: &mut Vec<u8>, code: u8, is_great: bool) -> Result<(), NoMe
 
 // Whether there is a small letter of ASCII.
 fn has_small_letter(cell: &[u8]) -> bool {
-    for byte in cell {
-        if byte.is_ascii_lowercase() {
-            return true;
-        }
-    }
-    false
+    cell.iter().any(|byte| byte.is_ascii_lowercase())
 }
 
 // How the bytes of a cell are read: in UTF-8 or in Latin-1, and as a name of capitals or of any letters.

@@ -1,11 +1,10 @@
 //! A quote that is not closed, or only lines later.
 
-ghost use Rattle.std.specs.Prelude.{◌≡◌, IfOk, IfSome, Some};
+ghost use Rattle.std.specs.Prelude.{◌≡◌, IfSome, Some};
 
 use crate::case::Case;
 use crate::texts::quotes::{CLOSE, OPEN};
-use sl_base_quotients::NoMemory;
-use sl_explain_texts::{Explanation, FaultCode, Span};
+use sl_explain_texts::{Explainer, FaultCode, Span};
 
 // The first byte of a cell that goes on over the end of a line, where the next quote of the file stands, or where none does to the end of the text.
 fn open_cell(case: &Case<'_>, column: usize) -> Option<Span> {
@@ -21,26 +20,10 @@ fn open_cell(case: &Case<'_>, column: usize) -> Option<Span> {
     }
 }
 
-// The quote of the first cell that is not closed on its line.
-fn open_quote(case: &Case<'_>) -> Option<Span> {
-    for column in 0..case.cells() {
-        if let Some(span) = open_cell(case, column) {
-            return Some(span);
-        }
-    }
-    None
-}
-
 /// The explanation of a record in which a quote is not closed, if there is one, about the fault of a code.
-pub(crate) fn explain_quote(
-    case: &Case<'_>,
-    code: FaultCode,
-) -> Result<Option<Explanation>, NoMemory>
-    ensures { IfOk result (λ found. IfSome found (λ x. x.code ≡ Some code)) }
+pub(crate) fn explain_quote(case: &Case<'_>, code: FaultCode) -> Option<Explainer>
+    ensures { IfSome result (λ x. x.code ≡ Some code) }
 {
-    let Some(span) = open_quote(case) else {
-        return Ok(None);
-    };
-    let explanation = case.explains(code, &OPEN, &[], span, &[&CLOSE])?;
-    Ok(Some(explanation))
+    let span = (0..case.cells()).find_map(|column| open_cell(case, column))?;
+    Some(case.says(code, &OPEN, &[], span).helped(&CLOSE, &[]))
 }

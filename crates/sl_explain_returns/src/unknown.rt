@@ -1,15 +1,14 @@
 //! Names that no record before declares.
 
-ghost use Rattle.std.specs.Prelude.{◌≡◌, IfOk, Some};
+ghost use Rattle.std.specs.Prelude.{◌≡◌, IfOk, IfSome, Some};
 ghost use Rattle.sl_explain_texts.specs.declared.code.FaultCode.TheVariants.{R07};
+ghost use Rattle.sl_explain_texts.specs.Explainers.{Keeps};
+ghost use Rattle.sl_explain_texts.specs.Messages.{IsFilledBy};
 
-use crate::case::{Case, find_record};
-use crate::texts::unknown::{
-    DECLARE_LAND, DECLARE_PARTY, DECLARE_WIN, IS_LAND, IS_PARTY, LATER, NEAREST_NAME, NO_LAND,
-    NO_PARTY, NO_SUMS, NO_WIN,
-};
+use crate::case::Case;
+use crate::texts::unknown as texts;
 use sl_base_quotients::NoMemory;
-use sl_explain_texts::{Explanation, FaultCode, Message, nearest};
+use sl_explain_texts::{Explainer, FaultCode, Message, nearest};
 use sl_returns::{A, Before, Content, KIND, Kind, LAND, Named, PARTY};
 use sl_stages::Returns;
 use std::alloc::Global;
@@ -25,21 +24,14 @@ const SUMS: [&[u8]; 7] = [
     b"bundesgebiet",
 ];
 
-// What is said of a name.
-fn unknown(named: Named) -> &'static Message {
+// What is said of a name, and how it is declared.
+fn name_messages(named: Named) -> (&'static Message, &'static Message)
+    ensures { IsFilledBy result.0.now 1 × IsFilledBy result.1.now 1 }
+{
     match named {
-        Named::Land => &NO_LAND,
-        Named::Party => &NO_PARTY,
-        Named::Constituency => &NO_WIN,
-    }
-}
-
-// How a name is declared.
-fn declaration(named: Named) -> &'static Message {
-    match named {
-        Named::Land => &DECLARE_LAND,
-        Named::Party => &DECLARE_PARTY,
-        Named::Constituency => &DECLARE_WIN,
+        Named::Land => (&texts::NO_LAND, &texts::DECLARE_LAND),
+        Named::Party => (&texts::NO_PARTY, &texts::DECLARE_PARTY),
+        Named::Constituency => (&texts::NO_WIN, &texts::DECLARE_WIN),
     }
 }
 
@@ -86,23 +78,21 @@ fn is_among(number: Option<usize>, first: usize) -> bool {
 }
 
 // What is said where a name stands in the column of another.
-fn exchanged(case: &Case<'_>, named: Named, name: &[u8]) -> Option<&'static Message> {
+fn exchanged(case: &Case<'_>, named: Named, name: &[u8]) -> Option<&'static Message>
+    ensures { IfSome result (λ x. IsFilledBy x.now 1) }
+{
     let before = case.refused.before;
+    let taken = case.taken;
     match named {
-        Named::Land if is_among(case.taken.find_party(name), before.parties) => Some(&IS_PARTY),
-        Named::Party if is_among(case.taken.find_land(name), before.lands) => Some(&IS_LAND),
+        Named::Land if is_among(taken.find_party(name), before.parties) => Some(&texts::IS_PARTY),
+        Named::Party if is_among(taken.find_land(name), before.lands) => Some(&texts::IS_LAND),
         Named::Land | Named::Party | Named::Constituency => None,
     }
 }
 
 // Whether a row of sums is called so.
 fn is_sum(name: &[u8]) -> bool {
-    for word in SUMS {
-        if name.eq_ignore_ascii_case(word) {
-            return true;
-        }
-    }
-    false
+    SUMS.iter().any(|word| name.eq_ignore_ascii_case(word))
 }
 
 // Adds a name that is near, or that a row of sums is deleted.
@@ -110,69 +100,33 @@ fn add_nearest(
     case: &Case<'_>,
     named: Named,
     name: &[u8],
-    explanation: &mut Explanation,
+    explainer: &mut Explainer,
 ) -> Result<(), NoMemory>
-    ensures { explanation.new.code ≡ explanation.old.code }
+    ensures { Keeps explainer.old explainer.new }
 {
-    let speaker = case.speaker;
     if is_sum(name) {
-        return speaker.helps(explanation, &NO_SUMS, &[]);
+        explainer.helps(&texts::NO_SUMS, &[]);
+        return Ok(());
     }
-    let names = names_of(speaker.alloc, case.taken, case.refused.before, named)?;
-    match nearest(speaker.alloc, name, names.as_slice())? {
-        Some(near) => speaker.helps(explanation, &NEAREST_NAME, &[near]),
-        None => Ok(()),
+    let alloc = case.speaker.alloc;
+    let names = names_of(alloc, case.taken, case.refused.before, named)?;
+    if let Some(near) = nearest(alloc, name, names.as_slice())? {
+        explainer.helps(&texts::NEAREST_NAME, &[near]);
     }
-}
-
-// Adds what is near, and how the name is declared.
-fn add_declaration(
-    case: &Case<'_>,
-    named: Named,
-    name: &[u8],
-    explanation: &mut Explanation,
-) -> Result<(), NoMemory>
-    ensures { explanation.new.code ≡ explanation.old.code }
-{
-    add_nearest(case, named, name, explanation)?;
-    let shown = case.speaker.shown(name)?;
-    let values = [shown.as_slice()];
-    case.speaker.helps(explanation, declaration(named), &values)
+    Ok(())
 }
 
 // The row of a record after this one that declares the name.
 fn declared_later(case: &Case<'_>, named: Named, name: &[u8]) -> Result<Option<u32>, NoMemory> {
     let (kind, column) = declaring(named);
-    let cells = [(KIND, kind.word()), (column, name)];
-    find_record(
-        case.speaker.alloc,
-        case.bytes,
+    case.find(
         case.refused.fault.row,
-        &cells,
+        &[(KIND, kind.word()), (column, name)],
     )
 }
 
-// Adds what to do: where the name is declared too late, or in another column, or how it is declared.
-fn add_remedies(
-    case: &Case<'_>,
-    named: Named,
-    name: &[u8],
-    explanation: &mut Explanation,
-) -> Result<(), NoMemory>
-    ensures { explanation.new.code ≡ explanation.old.code }
-{
-    if let Some(row) = declared_later(case, named, name)? {
-        let line = case.speaker.number(case.line(row))?;
-        return case.speaker.helps(explanation, &LATER, &[line.as_slice()]);
-    }
-    match exchanged(case, named, name) {
-        Some(message) => case.speaker.helps(explanation, message, &[name]),
-        None => add_declaration(case, named, name, explanation),
-    }
-}
-
-/// The column at fault and what its name stands for, where the cell at fault holds a name that must be known.
-pub(crate) fn known_name_at(case: &Case<'_>) -> Option<(usize, Named)> {
+// The column at fault and what its name stands for, where the cell at fault holds a name that must be known.
+fn known_name_at(case: &Case<'_>) -> Option<(usize, Named)> {
     let (column, content) = case.cell_at_fault()?;
     match content {
         Content::KnownName(named) | Content::KnownNameOrNone(named) => Some((column, named)),
@@ -185,18 +139,23 @@ pub(crate) fn known_name_at(case: &Case<'_>) -> Option<(usize, Named)> {
     }
 }
 
-/// The explanation of a name in a column that no record before declares.
-pub(crate) fn explain_unknown(
-    case: &Case<'_>,
-    column: usize,
-    named: Named,
-) -> Result<Explanation, NoMemory>
+/// The explanation of a name that no record before declares.
+pub(crate) fn explain_unknown(case: &Case<'_>) -> Result<Explainer, NoMemory>
     ensures { IfOk result (λ x. x.code ≡ Some R07) }
 {
+    let Some((column, named)) = known_name_at(case) else {
+        return case.explains_row(FaultCode::R07);
+    };
     let name = case.text(column);
-    let shown = case.speaker.shown(name)?;
-    let values = [shown.as_slice()];
-    let mut explanation = case.says(FaultCode::R07, unknown(named), &values, case.at(column))?;
-    add_remedies(case, named, name, &mut explanation)?;
-    Ok(explanation)
+    let (sentence, declaration) = name_messages(named);
+    let mut explainer = case.says(FaultCode::R07, sentence, &[name], case.at(column));
+    if let Some(row) = declared_later(case, named, name)? {
+        explainer.helps_with(&texts::LATER, case.speaker.number(case.line(row)));
+    } else if let Some(message) = exchanged(case, named, name) {
+        explainer.helps(message, &[name]);
+    } else {
+        add_nearest(case, named, name, &mut explainer)?;
+        explainer.helps(declaration, &[name]);
+    }
+    Ok(explainer)
 }

@@ -4,7 +4,7 @@ use Rattle.std.specs.Prelude.{ℕ, List, Option, codes, find, nat_eq}
 use Rattle.std.specs.Str.{bytes_eq}
 use Rattle.sl_explain_texts.specs.declared.language.Language.TheVariants.{English, German}
 use Rattle.sl_explain_texts.specs.declared.language.Language.{Language}
-use Rattle.sl_explain_texts.specs.declared.language.Message.{Message}
+use Rattle.sl_explain_texts.specs.declared.message.Message.{Message}
 use Rattle.sl_explain_texts.specs.declared.language.TheConstants.{LANGUAGES}
 
 -- the text of a message in a language

@@ -7,9 +7,12 @@
 #![tactic(auto)]
 
 mod code;
+mod explainer;
 mod explanation;
+mod filled;
 mod language;
 mod line;
+mod message;
 mod names;
 mod packed;
 mod page;
@@ -17,11 +20,15 @@ mod parts;
 mod program;
 mod shown;
 mod speaker;
+mod texts;
 
 pub use code::{CODES, FaultCode};
+pub use explainer::Explainer;
 pub use explanation::{Explanation, Remedy, Span};
-pub use language::{LANGUAGE_WORDS, LANGUAGES, Language, Message, Sentence};
+pub use filled::Filled;
+pub use language::{LANGUAGE_WORDS, LANGUAGES, Language};
 pub use line::{Line, line_at};
+pub use message::{Message, Sentence};
 pub use names::nearest;
 pub use packed::packing_of;
 pub use page::written;

@@ -5,10 +5,11 @@ ghost use Rattle.sl_explain_texts.specs.Heads.{Begins, head_of};
 
 use crate::code::FaultCode;
 use crate::explanation::{Explanation, Remedy, Span};
-use crate::language::{HELP, Language};
+use crate::language::Language;
 use crate::line::line_at;
 use crate::parts::{append, begins_character, from, until};
 use crate::shown::{push_shown, shown_count};
+use crate::texts::HELP;
 use sl_base_quotients::NoMemory;
 use std::alloc::Global;
 

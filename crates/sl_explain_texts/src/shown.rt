@@ -1,10 +1,13 @@
 //! Bytes of an input as they are shown to a person.
 
-use crate::parts::begins_character;
+use crate::parts::{begins_character, from, until};
 use sl_base_quotients::NoMemory;
 
 // What stands for a character that is not shown.
 const REPLACED: char = '\u{FFFD}';
+
+// How many bytes of an input a sentence repeats, up to the next character.
+const REPEATED: usize = 40;
 
 // Whether a character turns the direction of what stands after it.
 fn turns_text(character: char) -> bool {
@@ -57,6 +60,26 @@ pub fn push_shown(text: &mut Vec<u8>, bytes: &[u8]) -> Result<(), NoMemory> {
                 push_character(text, character_of(*byte))?;
             }
         }
+    }
+    Ok(())
+}
+
+// The bytes of a text that a sentence repeats.
+fn repeated(text: &[u8]) -> &[u8] {
+    for (place, byte) in from(text, REPEATED).iter().enumerate() {
+        if begins_character(*byte) {
+            return until(text, REPEATED.saturating_add(place));
+        }
+    }
+    text
+}
+
+/// Adds bytes of an input as a sentence repeats them: the first of them, as they are shown, and dots where there are more.
+pub(crate) fn push_repeated(text: &mut Vec<u8>, bytes: &[u8]) -> Result<(), NoMemory> {
+    let repeated = repeated(bytes);
+    push_shown(text, repeated)?;
+    if repeated.len() < bytes.len() {
+        text.extend_from_slice(b"...")?;
     }
     Ok(())
 }

@@ -1,27 +1,17 @@
-//! Explanations in one language, put together from messages.
+//! Who is spoken to, and texts in that language.
 
-ghost use Rattle.std.specs.Prelude.{◌≡◌, IfOk, Some};
+ghost use Rattle.std.specs.Prelude.{◌≡◌, None, Some, length};
+ghost use Rattle.sl_explain_texts.specs.Messages.{IsFilledBy, IsSaidBy};
 
-use crate::explanation::{Explanation, Span};
-use crate::language::{AND, Language, MEANT, Message, OR, Sentence};
-use crate::names::nearest;
-use crate::parts::{begins_character, from, until};
-use crate::shown::push_shown;
+use crate::explainer::Explainer;
+use crate::explanation::Span;
+use crate::filled::Filled;
+use crate::language::Language;
+use crate::message::{Message, Sentence};
+use crate::shown::push_repeated;
+use crate::texts::{AND, OR};
 use sl_base_quotients::NoMemory;
 use std::alloc::Global;
-
-// How many bytes of an input a sentence repeats, up to the next character.
-const REPEATED: usize = 40;
-
-// The bytes of a text that a sentence repeats.
-fn repeated(text: &[u8]) -> &[u8] {
-    for (place, byte) in from(text, REPEATED).iter().enumerate() {
-        if begins_character(*byte) {
-            return until(text, REPEATED.saturating_add(place));
-        }
-    }
-    text
-}
 
 /// The language in which a person is spoken to, and the memory for what is said.
 #[derive(Clone, Copy)]
@@ -31,72 +21,64 @@ pub struct Speaker {
 }
 
 impl Speaker {
-    /// An explanation of one sentence, without a place.
-    pub fn says(self, sentence: &Sentence, values: &[&[u8]]) -> Result<Explanation, NoMemory>
-        ensures { IfOk result (λ x. x.code ≡ Some sentence.now.0) }
+    // An explanation of one sentence, without a code and a place.
+    fn begins(self, sentence: Result<Vec<u8>, NoMemory>) -> Explainer
+        ensures { (result.code ≡ None) × (result.span ≡ None) }
     {
-        let text = self.text(&sentence.message(), values)?;
-        Ok(Explanation::of(self.alloc, Some(sentence.0), text))
+        Explainer {
+            speaker: self,
+            code: None,
+            span: None,
+            sentence,
+            remedies: Filled::new(self.alloc),
+            lines: Filled::new(self.alloc),
+        }
+    }
+
+    /// An explanation of no fault of an input, without a place.
+    pub fn tells(self, message: &Message, values: &[&[u8]]) -> Explainer
+        requires { IsFilledBy message.now (length values.now) }
+        ensures { (result.code ≡ None) × (result.span ≡ None) }
+    {
+        self.begins(self.text(message, values))
+    }
+
+    /// An explanation of one sentence, without a place.
+    pub fn says(self, sentence: &Sentence, values: &[&[u8]]) -> Explainer
+        requires { IsSaidBy sentence.now (length values.now) }
+        ensures { (result.code ≡ Some sentence.now.0) × (result.span ≡ None) }
+    {
+        let mut explainer = self.tells(&sentence.message(), values);
+        explainer.code = Some(sentence.0);
+        explainer
     }
 
     /// An explanation of one sentence, on some bytes.
-    pub fn says_at(
-        self,
-        sentence: &Sentence,
-        values: &[&[u8]],
-        span: Span,
-    ) -> Result<Explanation, NoMemory>
-        ensures { IfOk result (λ x. x.code ≡ Some sentence.now.0) }
+    pub fn says_at(self, sentence: &Sentence, values: &[&[u8]], span: Span) -> Explainer
+        requires { IsSaidBy sentence.now (length values.now) }
+        ensures { (result.code ≡ Some sentence.now.0) × (result.span ≡ Some span) }
     {
-        let explanation = self.says(sentence, values)?;
-        Ok(explanation.at(span.start, span.end))
-    }
-
-    /// An explanation of one sentence and of what to do.
-    pub fn explains(
-        self,
-        sentence: &Sentence,
-        values: &[&[u8]],
-        remedies: &[&Message],
-    ) -> Result<Explanation, NoMemory>
-        ensures { IfOk result (λ x. x.code ≡ Some sentence.now.0) }
-    {
-        let mut explanation = self.says(sentence, values)?;
-        for remedy in remedies {
-            self.helps(&mut explanation, remedy, &[])?;
-        }
-        Ok(explanation)
-    }
-
-    /// An explanation of one sentence and of what to do, on some bytes.
-    pub fn explains_at(
-        self,
-        sentence: &Sentence,
-        values: &[&[u8]],
-        span: Span,
-        remedies: &[&Message],
-    ) -> Result<Explanation, NoMemory>
-        ensures { IfOk result (λ x. x.code ≡ Some sentence.now.0) }
-    {
-        let explanation = self.explains(sentence, values, remedies)?;
-        Ok(explanation.at(span.start, span.end))
+        let mut explainer = self.says(sentence, values);
+        explainer.span = Some(span);
+        explainer
     }
 
     /// A text in the language.
-    pub fn text(self, message: &Message, values: &[&[u8]]) -> Result<Vec<u8>, NoMemory> {
+    pub fn text(self, message: &Message, values: &[&[u8]]) -> Result<Vec<u8>, NoMemory>
+        requires { IsFilledBy message.now (length values.now) }
+    {
         message.text(self.alloc, self.language, values)
     }
 
-    /// Adds what to do.
-    pub fn helps(
+    /// A text in the language, by a value that was made, unless making it found no memory.
+    pub fn text_with(
         self,
-        explanation: &mut Explanation,
         message: &Message,
-        values: &[&[u8]],
-    ) -> Result<(), NoMemory>
-        ensures { explanation.new.code ≡ explanation.old.code }
+        value: Result<Vec<u8>, NoMemory>,
+    ) -> Result<Vec<u8>, NoMemory>
+        requires { IsFilledBy message.now 1 }
     {
-        explanation.remedy(self.text(message, values)?)
+        self.text(message, &[value?.as_slice()])
     }
 
     /// A number in digits.
@@ -105,57 +87,25 @@ impl Speaker {
     }
 
     /// So many things, as `1 cell` or `7 cells`: the message for one of them or that for more, whose value is the number.
-    pub fn counted(
-        self,
-        number: usize,
-        one: &Message,
-        more: &Message,
-    ) -> Result<Vec<u8>, NoMemory> {
-        let digits = self.number(number)?;
+    pub fn counted(self, number: usize, one: &Message, more: &Message) -> Result<Vec<u8>, NoMemory>
+        requires { IsFilledBy one.now 1 × IsFilledBy more.now 1 }
+    {
         let message = if number == 1 { one } else { more };
-        self.text(message, &[digits.as_slice()])
+        self.text_with(message, self.number(number))
     }
 
     /// Some bytes of an input as a sentence repeats them: the first of them, without control characters.
     pub fn shown(self, text: &[u8]) -> Result<Vec<u8>, NoMemory> {
-        let repeated = repeated(text);
         let mut shown = Vec::new(self.alloc);
-        push_shown(&mut shown, repeated)?;
-        if repeated.len() < text.len() {
-            shown.extend_from_slice(b"...")?;
-        }
+        push_repeated(&mut shown, text)?;
         Ok(shown)
     }
 
     /// A message without values.
-    pub fn word(self, message: &Message) -> &'static [u8] {
+    pub fn word(self, message: &Message) -> &'static [u8]
+        requires { IsFilledBy message.now 0 }
+    {
         message.in_language(self.language).as_bytes()
-    }
-
-    /// Adds the question whether one of these names is meant by a word that is near to it. Answers whether there is one.
-    pub fn helps_nearest(
-        self,
-        explanation: &mut Explanation,
-        word: &[u8],
-        names: &[&[u8]],
-    ) -> Result<bool, NoMemory>
-        ensures { explanation.new.code ≡ explanation.old.code }
-    {
-        match nearest(self.alloc, word, names) {
-            Ok(Some(name)) => {
-                self.helps_meant(explanation, name)?;
-                Ok(true)
-            }
-            Ok(None) => Ok(false),
-            Err(refusal) => Err(refusal),
-        }
-    }
-
-    /// Adds the question whether a name is meant.
-    pub fn helps_meant(self, explanation: &mut Explanation, name: &[u8]) -> Result<(), NoMemory>
-        ensures { explanation.new.code ≡ explanation.old.code }
-    {
-        self.helps(explanation, &MEANT, &[name])
     }
 
     /// Words in a row, with an `or` before the last.
@@ -169,7 +119,9 @@ impl Speaker {
     }
 
     // What stands before a word in a row, after which so many are left.
-    fn separator(self, is_first: bool, behind: usize, joint: &Message) -> &'static [u8] {
+    fn separator(self, is_first: bool, behind: usize, joint: &Message) -> &'static [u8]
+        requires { IsFilledBy joint.now 0 }
+    {
         if is_first {
             b""
         } else if behind == 0 {
@@ -180,7 +132,9 @@ impl Speaker {
     }
 
     // Words in a row, with a word before the last.
-    fn listed(self, words: &[Vec<u8>], joint: &Message) -> Result<Vec<u8>, NoMemory> {
+    fn listed(self, words: &[Vec<u8>], joint: &Message) -> Result<Vec<u8>, NoMemory>
+        requires { IsFilledBy joint.now 0 }
+    {
         let mut text = Vec::new(self.alloc);
         let mut behind = words.len();
         for word in words {

@@ -6,7 +6,6 @@ ghost use Rattle.sl_report_tables.specs.Answers.{HasTables};
 
 use sl_base_quotients::NoMemory;
 use sl_count_calls::{End, Records, outcome_of};
-use sl_explain_texts::Language;
 use sl_report_tables::{Answer, FullNames, Judged, comparison_answer};
 use sl_stages::{CheckedBook, Counted, LegalFault, Returns};
 use std::alloc::Global;
@@ -51,7 +50,6 @@ pub fn compare_judged(
     books: Vec<Compared>,
     returns: &Returns,
     full: &FullNames,
-    language: Language,
 ) -> Result<Answer, NoMemory>
     ensures { IfOk result (HasTables returns.now (ShowsCompared returns.now books.items)) }
 {
@@ -59,5 +57,5 @@ pub fn compare_judged(
     for compared in books {
         all.push(judged(alloc, compared, returns)?)?;
     }
-    comparison_answer(alloc, all.as_slice(), returns, full, language)
+    comparison_answer(alloc, all.as_slice(), returns, full)
 }

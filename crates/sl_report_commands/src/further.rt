@@ -9,8 +9,11 @@ use sl_explain_calls::{Explained, explain_book};
 use sl_explain_texts::{Language, Message, push_shown};
 use std::alloc::Global;
 
-// Values: the word that names the rulebook, and what is wrong with it.
-const ALSO: Message = Message("also refused: $: $", "auch abgelehnt: $: $");
+// A line on a rulebook that is refused, by the word that names it.
+const ALSO: Message = Message(
+    "also refused: {word}: {sentence}",
+    "auch abgelehnt: {word}: {sentence}",
+);
 
 // A line on a rulebook that is refused: the word that names it, and the sentence of its own explanation.
 fn line_on(
@@ -39,5 +42,5 @@ pub fn add_refused(
     let own = explain_book(alloc, language, text, refused)?;
     let line = line_on(alloc, language, word, &own);
     drop(own);
-    explained.explanation.line(line?)
+    explained.explanation.add_line(line?)
 }

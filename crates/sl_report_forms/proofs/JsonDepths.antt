@@ -1,5 +1,5 @@
 -- How deep the JSON of sheets nests.
-use Rattle.std.proofs.Common.{String, ℕ, ◌≤◌, List, [], ◌∷◌, ◌++◌, map, filter, flat_map, zip, string_bytes, bytes_eq, Option, Some, None, Ordering, Less, Equal, Greater, nat_cmp, arith, codes, Result, Ok, Err, IfOk, IfSome, inl, inr, sym, subst}
+use Rattle.std.proofs.Common.{String, ℕ, ◌≤◌, List, [], ◌∷◌, ◌++◌, map, filter, flat_map, zip, bytes_eq, Option, Some, None, Ordering, Less, Equal, Greater, nat_cmp, arith, codes, Result, Ok, Err, IfOk, IfSome, inl, inr, sym, subst}
 use Rattle.std.proofs.lemmas.List.{map-append}
 use Rattle.std.specs.Cmp.Lexicographic.{slice_cmp}
 use Rattle.std.specs.Ordering.{match_ordering}
@@ -10,7 +10,8 @@ use Rattle.serde_json.specs.Read.{max_depth}
 use Rattle.serde_json.specs.declared.value.Value.{Value}
 use Rattle.sl_base_quotients.specs.declared.no_memory.NoMemory.{NoMemory}
 use Rattle.sl_law_meaning.specs.declared.fault.Scope.TheVariants as scope
-use Rattle.sl_report_forms.specs.Drafts.{Gains}
+use Rattle.sl_explain_texts.specs.Gains.{Gains}
+use Rattle.sl_report_forms.specs.Heads.{head_key}
 use Rattle.sl_report_forms.specs.NameTexts.{text_in}
 use Rattle.sl_report_forms.specs.declared.cell.Cell.TheVariants as cell
 use Rattle.sl_report_forms.specs.declared.cell.Cell.{Cell}
@@ -70,7 +71,7 @@ of_cell n (cell.ScopeName scope) = omega arith
 
 of_rows : (n : Names) (s : Sheet) → items_depth (items_of (sheet_rows n s)) ≤ 2
 of_rows n s = items_of_all (λ row. row_value n s.heads.items row.items) 2
-    (λ row. omega (arith, with_members_of {A = Head × Cell} (λ p. string_bytes p.0.key) (λ p. cell_value n p.1) 1 (λ p. of_cell n p.1) no_members (zip s.heads.items row.items) (omega arith))) s.rows.items
+    (λ row. omega (arith, with_members_of {A = Head × Cell} (λ p. head_key p.0) (λ p. cell_value n p.1) 1 (λ p. of_cell n p.1) no_members (zip s.heads.items row.items) (omega arith))) s.rows.items
 
 pub of_tables : (n : Names) (sheets : List Sheet) → depth (tables_value n sheets) ≤ 4
 of_tables n sheets =

@@ -13,8 +13,10 @@ use Rattle.std.proofs.lemmas.List.Concat.{flat_map-append}
 use Rattle.std.proofs.lemmas.List.Elements.{filter-append, filter_map-append}
 use Rattle.std.proofs.lemmas.Option.{get_or_from_slice_get, slice_get-get_or, slice_get_past, slice_get_within}
 use Rattle.std.proofs.lemmas.Str.{encode_ascii, inside_one}
-use Rattle.sl_report_forms.specs.Drafts.{Gains, Grows}
-use Rattle.sl_report_forms.specs.Shown.{column_of, has_view, in_columns, view_in, view_of, views_of}
+use Rattle.sl_explain_texts.specs.Gains.{Gains}
+use Rattle.sl_explain_texts.specs.declared.language.Language.{Language}
+use Rattle.sl_report_forms.specs.Drafts.{Grows}
+use Rattle.sl_report_forms.specs.Shown.{place_of, has_view, in_columns, view_in, view_of, views_of}
 use Rattle.sl_report_forms.specs.declared.names.Names.{Names}
 use Rattle.sl_report_forms.specs.declared.sheet.Sheet.{Sheet}
 use Rattle.sl_report_forms.specs.declared.shown.Shown.{Shown}
@@ -138,37 +140,42 @@ enumerate-append n (y ∷ ys) x =
 
 -- one column more, if it passes a test
 abbrev pub Found : (ShownColumn → Bool) → List Head → Option (List ShownColumn) → Type 0
-Found p heads found = IfSome found (λ columns. columns ≡ filter p (map column_of (enumerate_from 0 heads)))
+Found p heads found = IfSome found (λ columns. columns ≡ filter p (map place_of (enumerate_from 0 heads)))
 
 module _ (p : ShownColumn → Bool) (heads : List Head) (i : ℕ) (h : Head) (within : i < length heads) (is : h ≡ get_or heads i h) where
-  columns_next : filter p (map column_of (enumerate_from 0 (take (i + 1) heads)))
-      ≡ filter p (map column_of (enumerate_from 0 (take i heads))) ++ filter p (column_of (i, h) ∷ [])
+  columns_next : filter p (map place_of (enumerate_from 0 (take (i + 1) heads)))
+      ≡ filter p (map place_of (enumerate_from 0 (take i heads))) ++ filter p (place_of (i, h) ∷ [])
   columns_next =
       let n : 0 + length (take i heads) ≡ i = omega (arith, length-take i heads) in
-      ap (λ hs. filter p (map column_of (enumerate_from 0 hs))) (take_more heads i h within ∙ ap (λ x. take i heads ++ x ∷ []) (sym is))
-      ∙ ap (λ hs. filter p (map column_of hs)) (enumerate-append 0 (take i heads) h ∙ ap (λ m. enumerate_from 0 (take i heads) ++ (m, h) ∷ []) n)
-      ∙ ap (filter p) (map_push column_of (enumerate_from 0 (take i heads)) (i, h))
-      ∙ filter-append p (map column_of (enumerate_from 0 (take i heads))) (column_of (i, h) ∷ [])
+      ap (λ hs. filter p (map place_of (enumerate_from 0 hs))) (take_more heads i h within ∙ ap (λ x. take i heads ++ x ∷ []) (sym is))
+      ∙ ap (λ hs. filter p (map place_of hs)) (enumerate-append 0 (take i heads) h ∙ ap (λ m. enumerate_from 0 (take i heads) ++ (m, h) ∷ []) n)
+      ∙ ap (filter p) (map_push place_of (enumerate_from 0 (take i heads)) (i, h))
+      ∙ filter-append p (map place_of (enumerate_from 0 (take i heads))) (place_of (i, h) ∷ [])
 
-  pub found_more : (before after : Option (List ShownColumn)) → p (column_of (i, h)) ≡ true → Gains {E = ℕ} before after (Ok (column_of (i, h))) → Found p (take i heads) before →
+  found_more : (before after : Option (List ShownColumn)) → p (place_of (i, h)) ≡ true → Gains {E = ℕ} before after (Ok (place_of (i, h))) → Found p (take i heads) before →
       Found p (take (i + 1) heads) after
   found_more before after passes g so_far =
-      let r : Result ShownColumn ℕ = Ok (column_of (i, h)) in
-      gained (λ columns. columns ≡ filter p (map column_of (enumerate_from 0 (take i heads)))) (λ columns. columns ≡ filter p (map column_of (enumerate_from 0 (take (i + 1) heads))))
+      let r : Result ShownColumn ℕ = Ok (place_of (i, h)) in
+      gained (λ columns. columns ≡ filter p (map place_of (enumerate_from 0 (take i heads)))) (λ columns. columns ≡ filter p (map place_of (enumerate_from 0 (take (i + 1) heads))))
       before after r g so_far
-      (λ x xs e so. let same : column_of (i, h) ≡ x = cc in
-      ap (λ ys. ys ++ x ∷ []) so ∙ ap (λ y. filter p (map column_of (enumerate_from 0 (take i heads))) ++ y ∷ []) (sym same)
-      ∙ ap (λ b. filter p (map column_of (enumerate_from 0 (take i heads))) ++ cond b (column_of (i, h) ∷ []) []) (sym passes) ∙ sym columns_next)
+      (λ x xs e so. let same : place_of (i, h) ≡ x = cc in
+      ap (λ ys. ys ++ x ∷ []) so ∙ ap (λ y. filter p (map place_of (enumerate_from 0 (take i heads))) ++ y ∷ []) (sym same)
+      ∙ ap (λ b. filter p (map place_of (enumerate_from 0 (take i heads))) ++ cond b (place_of (i, h) ∷ []) []) (sym passes) ∙ sym columns_next)
 
-  pub found_same : (before : Option (List ShownColumn)) → p (column_of (i, h)) ≡ false → Found p (take i heads) before → Found p (take (i + 1) heads) before
+  -- the same of a column that was made
+  module _ (made : ShownColumn) (e : made ≡ place_of (i, h)) where
+    pub found_by : (before after : Option (List ShownColumn)) → p made ≡ true → Gains {E = ℕ} before after (Ok made) → Found p (take i heads) before → Found p (take (i + 1) heads) after
+    found_by before after passes g = found_more before after (subst (λ x. p x ≡ true) e passes) (subst (λ x. Gains {E = ℕ} before after (Ok x)) e g)
+
+  pub found_same : (before : Option (List ShownColumn)) → p (place_of (i, h)) ≡ false → Found p (take i heads) before → Found p (take (i + 1) heads) before
   found_same before fails so_far =
       subst (λ ys. IfSome before (λ columns. columns ≡ ys)) (sym (
-      columns_next ∙ ap (λ b. filter p (map column_of (enumerate_from 0 (take i heads))) ++ cond b (column_of (i, h) ∷ []) []) fails
-      ∙ append-nil (filter p (map column_of (enumerate_from 0 (take i heads)))))) so_far
+      columns_next ∙ ap (λ b. filter p (map place_of (enumerate_from 0 (take i heads))) ++ cond b (place_of (i, h) ∷ []) []) fails
+      ∙ append-nil (filter p (map place_of (enumerate_from 0 (take i heads)))))) so_far
 
 -- ---- sheets
-has_view_by : (n : Names) (s : Sheet) (shown : Shown) → view_in shown ≡ view_of n s → has_view s ≡ not (length shown.columns.items == 0)
-has_view_by n s shown e = ap (λ v. not (length v.columns == 0)) (sym e)
+has_view_by : (g : Language) (n : Names) (s : Sheet) (shown : Shown) → view_in shown ≡ view_of g n s → has_view s ≡ not (length shown.columns.items == 0)
+has_view_by g n s shown e = ap (λ v. not (length v.columns == 0)) (sym e)
 
 sheets_next : (sheets : List Sheet) (i : ℕ) (s : Sheet) (b : Bool) → i < length sheets → s ≡ get_or sheets i s → has_view s ≡ b →
     filter has_view (take (i + 1) sheets) ≡ filter has_view (take i sheets) ++ cond b (s ∷ []) []
@@ -177,16 +184,16 @@ sheets_next sheets i s b within is seen =
     ∙ filter-append has_view (take i sheets) (s ∷ []) ∙ ap (λ t. filter has_view (take i sheets) ++ cond t (s ∷ []) []) seen
 
 -- one sheet more, if it is shown
-module _ (n : Names) (sheets : List Sheet) (i : ℕ) (s : Sheet) (shown : Shown) (within : i < length sheets) (is : s ≡ get_or sheets i s) (made : view_in shown ≡ view_of n s)
-    (views : List Shown) (so_far : map view_in views ≡ views_of n (take i sheets)) where
-  pub views_more : length shown.columns.items == 0 ≡ false → map view_in (views ++ shown ∷ []) ≡ views_of n (take (i + 1) sheets)
+module _ (g : Language) (n : Names) (sheets : List Sheet) (i : ℕ) (s : Sheet) (shown : Shown) (within : i < length sheets) (is : s ≡ get_or sheets i s) (made : view_in shown ≡ view_of g n s)
+    (views : List Shown) (so_far : map view_in views ≡ views_of g n (take i sheets)) where
+  pub views_more : length shown.columns.items == 0 ≡ false → map view_in (views ++ shown ∷ []) ≡ views_of g n (take (i + 1) sheets)
   views_more seen =
-      map_push view_in views shown ∙ ap (λ vs. vs ++ view_in shown ∷ []) so_far ∙ ap (λ v. views_of n (take i sheets) ++ v ∷ []) made
-      ∙ sym (ap (map (view_of n)) (sheets_next sheets i s true within is (has_view_by n s shown made ∙ ap not seen)) ∙ map_push (view_of n) (filter has_view (take i sheets)) s)
+      map_push view_in views shown ∙ ap (λ vs. vs ++ view_in shown ∷ []) so_far ∙ ap (λ v. views_of g n (take i sheets) ++ v ∷ []) made
+      ∙ sym (ap (map (view_of g n)) (sheets_next sheets i s true within is (has_view_by g n s shown made ∙ ap not seen)) ∙ map_push (view_of g n) (filter has_view (take i sheets)) s)
 
-  pub views_same : length shown.columns.items == 0 ≡ true → map view_in views ≡ views_of n (take (i + 1) sheets)
+  pub views_same : length shown.columns.items == 0 ≡ true → map view_in views ≡ views_of g n (take (i + 1) sheets)
   views_same unseen =
-      so_far ∙ sym (ap (map (view_of n)) (sheets_next sheets i s false within is (has_view_by n s shown made ∙ ap not unseen) ∙ append-nil (filter has_view (take i sheets))))
+      so_far ∙ sym (ap (map (view_of g n)) (sheets_next sheets i s false within is (has_view_by g n s shown made ∙ ap not unseen) ∙ append-nil (filter has_view (take i sheets))))
 
 -- ---- bytes and characters
 plain_bytes : (f : ℕ → List ℕ) (bytes : List ℕ) → ((i : ℕ) → i < length bytes → f (get_or bytes i 0) ≡ get_or bytes i 0 ∷ []) → flat_map f bytes ≡ bytes

@@ -12,7 +12,8 @@ use Rattle.std.proofs.lemmas.List.{length-append, map_push, take_more}
 use Rattle.std.proofs.lemmas.List.Sums.{sum_by-cons}
 use Rattle.std.proofs.lemmas.Option.{slice_get-get_or}
 use Rattle.std.proofs.lemmas.Str.{cons_from_encodes, encodes-append, encodes-chars, encodes_same}
-use Rattle.sl_report_forms.specs.Drafts.{Gains, Grows}
+use Rattle.sl_explain_texts.specs.Gains.{Gains}
+use Rattle.sl_report_forms.specs.Drafts.{Grows}
 use Rattle.sl_report_forms.specs.Shown.{View}
 use Rattle.sl_report_forms.specs.TextForm.{IsLongestBegin, aligned_block, aligned_line, aligned_table, begin_under, char_columns, column_in, columns_of, cut_lines, fits, is_whole, whole_lines}
 use Rattle.sl_report_forms.specs.declared.shown.ShownColumn.{ShownColumn}

@@ -17,14 +17,14 @@ use Rattle.sl_report_forms.specs.declared.cell.Reader.{Reader}
 use Rattle.sl_report_forms.specs.declared.names.Length.TheVariants.{Full, Short}
 use Rattle.sl_report_forms.specs.declared.names.Names.{Names}
 
-abbrev pub language_for : Reader → Names → Language
-language_for Program n = English
-language_for Person n = n.language
+abbrev pub language_for : Reader → Language
+language_for Program = English
+language_for (Person language) = language
 
 -- the sign of a number that is more than before
 abbrev pub more_sign : Reader → List ℕ
 more_sign Program = []
-more_sign Person = codes "+"
+more_sign (Person language) = codes "+"
 
 -- by how much a number is another than before: with `-` where it is less
 abbrev pub change_text : Reader → ℕ → ℕ → List ℕ
@@ -38,7 +38,7 @@ fraction_text num den = decimal num ++ codes "/" ++ decimal den
 -- the names of claimants in a scope
 abbrev pub claimants_text : Reader → Names → List Item → Scope → List ℕ
 claimants_text Program n entries scope = list_text n Short scopes.All (codes " ") entries
-claimants_text Person n entries scope = list_text n Full scope (codes ", ") entries
+claimants_text (Person language) n entries scope = list_text n Full scope (codes ", ") entries
 
 abbrev pub text_for : Reader → Names → Cell → List ℕ
 text_for reader n cell.Empty = []
@@ -48,20 +48,20 @@ text_for reader n (cell.Number number) = decimal number
 text_for reader n (cell.Decimal number) = number_text number
 text_for reader n (cell.Fraction num den) = fraction_text num den
 text_for reader n (cell.Change number before) = change_text reader number before
-text_for reader n (cell.Flag true) = word_of (codes "yes") (codes "ja") (language_for reader n)
-text_for reader n (cell.Flag false) = word_of (codes "no") (codes "nein") (language_for reader n)
-text_for reader n (cell.Word word) = in_language (language_for reader n) word
-text_for reader n (cell.Condition cond) = condition_text (language_for reader n) cond
+text_for reader n (cell.Flag true) = word_of (codes "yes") (codes "ja") (language_for reader)
+text_for reader n (cell.Flag false) = word_of (codes "no") (codes "nein") (language_for reader)
+text_for reader n (cell.Word word) = in_language (language_for reader) word
+text_for reader n (cell.Condition cond) = condition_text (language_for reader) cond
 text_for reader n (cell.Stage stage) = stage_text n stage
 text_for reader n (cell.Entry entry) = text_in n Short scopes.All entry
 text_for reader n (cell.EntryName entry scope) = text_in n Full scope entry
 text_for reader n (cell.Entries entries) = list_text n Short scopes.All (codes " ") entries.items
 text_for reader n (cell.Claimants entries scope) = claimants_text reader n entries.items scope
 text_for reader n (cell.Scope scope) = scope_text n scope
-text_for reader n (cell.ScopeName scope) = scope_name (language_for reader n) n scope
+text_for reader n (cell.ScopeName scope) = scope_name (language_for reader) n scope
 
 abbrev pub key_text : Names → Cell → List ℕ
 key_text n cell = text_for Program n cell
 
-abbrev pub shown_text : Names → Cell → List ℕ
-shown_text n cell = text_for Person n cell
+abbrev pub shown_text : Language → Names → Cell → List ℕ
+shown_text language n cell = text_for (Person language) n cell

@@ -1,11 +1,12 @@
 -- Sheets as comma-separated values: their records, and the text of these.
-use Rattle.std.specs.Prelude.{◌≡◌, ℕ, Bool, true, false, List, [], ◌∷◌, ◌++◌, map, string_bytes, if◌then◌else◌}
+use Rattle.std.specs.Prelude.{◌≡◌, ℕ, Bool, true, false, List, [], ◌∷◌, ◌++◌, map, if◌then◌else◌}
 use Rattle.std.specs.Global.{Vec}
 use Rattle.std.specs.List.{flat_map, list_any}
 use Rattle.std.specs.Str.{bytes_eq}
 use Rattle.csv.specs.Reading.{default_config, records}
 use Rattle.csv.specs.Writing.{default_writer, fields_written, has_written, row_text, with_flexible, writer_pending, writer_setup, writer_under}
 use Rattle.csv.specs.declared.writer.Writer.{Writer}
+use Rattle.sl_report_forms.specs.Heads.{head_key}
 use Rattle.sl_report_forms.specs.CellTexts.{key_text}
 use Rattle.sl_report_forms.specs.declared.cell.Cell.{Cell}
 use Rattle.sl_report_forms.specs.declared.names.Names.{Names}
@@ -15,7 +16,7 @@ use Rattle.sl_report_forms.specs.declared.sheet.Sheet.{Sheet}
 
 -- the key of a sheet, and those of its columns
 abbrev pub heads_record : Sheet → List (List ℕ)
-heads_record s = s.key.now ∷ map (λ h. string_bytes h.key) s.heads.items
+heads_record s = s.key.now ∷ map head_key s.heads.items
 
 -- the key of its sheet, and the texts of the cells
 abbrev pub row_record : Names → List ℕ → List Cell → List (List ℕ)

@@ -9,6 +9,7 @@ use Rattle.serde_json.specs.declared.value.Value.{Value}
 use Rattle.sl_explain_texts.specs.Codes.{code_word}
 use Rattle.sl_explain_texts.specs.declared.program.TheConstants.{VERSION}
 use Rattle.sl_law_meaning.specs.declared.fault.Scope.TheVariants as scope
+use Rattle.sl_report_forms.specs.Heads.{head_key}
 use Rattle.sl_report_forms.specs.CellTexts.{key_text}
 use Rattle.sl_report_forms.specs.NameTexts.{text_in}
 use Rattle.sl_report_forms.specs.declared.cell.Cell.TheVariants as cell
@@ -50,7 +51,7 @@ cell_value names cell = string (key_text names cell)
 
 -- an object with each cell that stands below a head, by the head's key
 abbrev pub row_value : Names → List Head → List Cell → Data
-row_value names heads row = object_of (map (λ p. (string_bytes p.0.key, cell_value names p.1)) (zip heads row))
+row_value names heads row = object_of (map (λ p. (head_key p.0, cell_value names p.1)) (zip heads row))
 
 abbrev pub sheet_rows : Names → Sheet → List Data
 sheet_rows names s = map (λ row. row_value names s.heads.items row.items) s.rows.items

@@ -3,6 +3,7 @@ pub mod Cells
 pub mod CellTexts
 pub mod CommaForm
 pub mod Drafts
+pub mod Heads
 pub mod HtmlForm
 pub mod JsonForm
 pub mod MarkdownForm

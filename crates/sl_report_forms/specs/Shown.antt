@@ -1,7 +1,9 @@
 -- What a person sees of sheets: of each its title, the columns that are not hidden and in which a row has something, their titles, and the texts of each row.
 use Rattle.std.specs.Prelude.{ℕ, Bool, true, false, not, ◌&&◌, ◌==◌, List, Option, Some, None, length, map, slice_get, string_bytes}
 use Rattle.std.specs.List.{enumerate_from, filter, filter_map, list_any}
+use Rattle.sl_explain_texts.specs.declared.language.Language.{Language}
 use Rattle.sl_report_forms.specs.CellTexts.{shown_text}
+use Rattle.sl_report_forms.specs.Heads.{head_look, head_text, title_text}
 use Rattle.sl_report_forms.specs.declared.cell.Cell.TheVariants as cell
 use Rattle.sl_report_forms.specs.declared.cell.Cell.{Cell}
 use Rattle.sl_report_forms.specs.declared.names.Names.{Names}
@@ -31,21 +33,21 @@ has_text s place = list_any (λ row. is_filled (slice_get row.items place)) s.ro
 abbrev pub is_shown : Sheet → ShownColumn → Bool
 is_shown s column = not (is_hidden column.look) && has_text s column.place
 
-abbrev pub column_of : ℕ × Head → ShownColumn
-column_of h = record { place = h.0; look = h.1.look }
+abbrev pub place_of : ℕ × Head → ShownColumn
+place_of h = record { place = h.0; look = head_look h.1 }
 
 abbrev pub shown_columns : Sheet → List ShownColumn
-shown_columns s = filter (is_shown s) (map column_of (enumerate_from 0 s.heads.items))
+shown_columns s = filter (is_shown s) (map place_of (enumerate_from 0 s.heads.items))
 
 -- what stands in these columns
 abbrev pub in_columns : {A : Type 0} → List ShownColumn → List A → List A
 in_columns columns xs = filter_map (λ column. slice_get xs column.place) columns
 
-abbrev pub titles_in : List ShownColumn → List Head → List (List ℕ)
-titles_in columns heads = map (λ h. string_bytes h.title) (in_columns columns heads)
+abbrev pub titles_in : Language → List ShownColumn → List Head → List (List ℕ)
+titles_in language columns heads = map (head_text language) (in_columns columns heads)
 
-abbrev pub texts_in : Names → List ShownColumn → List Cell → List (List ℕ)
-texts_in names columns cells = map (shown_text names) (in_columns columns cells)
+abbrev pub texts_in : Language → Names → List ShownColumn → List Cell → List (List ℕ)
+texts_in language names columns cells = map (shown_text language names) (in_columns columns cells)
 
 -- what is shown: the key and the title of the sheet, the columns, their titles, and the texts of each row
 pub record View : Type 0 where
@@ -55,13 +57,13 @@ pub record View : Type 0 where
   pub titles : List (List ℕ)
   pub rows : List (List (List ℕ))
 
-abbrev pub view_of : Names → Sheet → View
-view_of names s = let columns = shown_columns s in record {
+abbrev pub view_of : Language → Names → Sheet → View
+view_of language names s = let columns = shown_columns s in record {
   key = s.key.now;
-  title = string_bytes s.title;
+  title = title_text language names s.title;
   columns = columns;
-  titles = titles_in columns s.heads.items;
-  rows = map (λ row. texts_in names columns row.items) s.rows.items;
+  titles = titles_in language columns s.heads.items;
+  rows = map (λ row. texts_in language names columns row.items) s.rows.items;
 }
 
 -- the same of what the program made
@@ -79,5 +81,5 @@ abbrev pub has_view : Sheet → Bool
 has_view s = not (length (shown_columns s) == 0)
 
 -- what is shown of those
-abbrev pub views_of : Names → List Sheet → List View
-views_of names sheets = map (view_of names) (filter has_view sheets)
+abbrev pub views_of : Language → Names → List Sheet → List View
+views_of language names sheets = map (view_of language names) (filter has_view sheets)

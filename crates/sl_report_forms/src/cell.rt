@@ -51,16 +51,17 @@ pub enum Cell {
 #[derive(Clone, Copy)]
 pub enum Reader {
     Program,
-    Person,
+    /// One who reads a language.
+    Person(Language),
 }
 
 impl Reader {
-    fn language(self, names: &Names) -> Language
-        ensures { result ≡ spec.language_for self names.now }
+    fn language(self) -> Language
+        ensures { result ≡ spec.language_for self }
     {
         match self {
             Reader::Program => Language::English,
-            Reader::Person => names.language,
+            Reader::Person(language) => language,
         }
     }
 }
@@ -71,7 +72,7 @@ fn change_text(alloc: Global, reader: Reader, number: u64, before: u64) -> Resul
 {
     let sign = match (number.cmp(&before), reader) {
         (Ordering::Less, _) => "-",
-        (Ordering::Greater, Reader::Person) => "+",
+        (Ordering::Greater, Reader::Person(_)) => "+",
         (_, _) => "",
     };
     let by = number.abs_diff(before);
@@ -120,7 +121,7 @@ impl Cell {
     pub fn text(&self, alloc: Global, names: &Names, reader: Reader) -> Result<String, NoMemory>
         ensures { IfOk result (λ t. string_bytes t ≡ spec.text_for reader names.now self.now) }
     {
-        let language = reader.language(names);
+        let language = reader.language();
         match self {
             Cell::Empty => copied(alloc, ""),
             Cell::Text(text) | Cell::Prose(text) => copied(alloc, text.as_str()),
@@ -140,7 +141,7 @@ impl Cell {
             }
             Cell::Claimants(entries, scope) => match reader {
                 Reader::Program => names.list(alloc, Length::Short, Scope::All, entries, " "),
-                Reader::Person => names.list(alloc, Length::Full, *scope, entries, ", "),
+                Reader::Person(_) => names.list(alloc, Length::Full, *scope, entries, ", "),
             },
             Cell::Scope(scope) => names.scope(alloc, *scope),
             Cell::ScopeName(scope) => names.scope_name(alloc, language, *scope),

@@ -27,7 +27,7 @@ fn put_heads(alloc: Global, out: &mut Writer<Vec<u8>>, sheet: &Sheet) -> Result<
     let mut fields = ByteRecord::new(alloc);
     fields.push_field(sheet.key.as_bytes())?;
     for head in &sheet.heads {
-        fields.push_field(head.key.as_bytes())?;
+        fields.push_field(head.key().as_bytes())?;
     }
     put_fields(out, &fields)
 }

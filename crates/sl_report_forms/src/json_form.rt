@@ -11,7 +11,6 @@ ghost use Rattle.sl_report_forms.specs.JsonForm as spec;
 ghost use Rattle.sl_report_forms.specs.JsonForm.{Adds, IsJsonText, IsLineOf, array_of, change, sheet_rows, table_value, tables_value};
 
 use crate::cell::{Cell, Reader};
-use crate::draft::Filled;
 use crate::heading::Heading;
 use crate::json_heading::put_heading;
 use crate::json_values::{Members, array_value};
@@ -19,6 +18,7 @@ use crate::names::{Length, Names};
 use crate::sheet::{Head, Sheet};
 use serde_json::{Number, Value};
 use sl_base_quotients::NoMemory;
+use sl_explain_texts::Filled;
 use sl_law_meaning::{Item, Scope};
 use std::alloc::Global;
 
@@ -70,7 +70,7 @@ fn row_value(alloc: Global, names: &Names, heads: &[Head], row: &[Cell]) -> Resu
     let mut members = Members::new(alloc);
     for (place, cell) in row.iter().enumerate() {
         if let Some(head) = heads.get(place) {
-            members.put(head.key.as_str(), cell_value(alloc, names, cell));
+            members.put(head.key(), cell_value(alloc, names, cell));
         }
     }
     members.finished()

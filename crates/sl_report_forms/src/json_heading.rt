@@ -6,12 +6,12 @@ ghost use Rattle.serde_json.specs.View.{view};
 ghost use Rattle.sl_report_forms.specs.JsonForm as spec;
 ghost use Rattle.sl_report_forms.specs.JsonForm.{Explains, MaybeExplains, NestsWithin, Puts, array_of, heading_members, hex};
 
-use crate::draft::{Draft, Filled};
+use crate::draft::Draft;
 use crate::heading::{DigestedInput, Heading, Told};
 use crate::json_values::{Members, array_value, bytes_value};
 use serde_json::Value;
 use sl_base_quotients::NoMemory;
-use sl_explain_texts::{FaultCode, Remedy, Span, VERSION, line_at};
+use sl_explain_texts::{FaultCode, Filled, Remedy, Span, VERSION, line_at};
 use std::alloc::Global;
 
 /// The version of the JSON, as docs/report.schema.json has it.

@@ -6,9 +6,9 @@ ghost use Rattle.serde_json.specs.Find.{get_member};
 ghost use Rattle.serde_json.specs.View.{members_view, view};
 ghost use Rattle.sl_report_forms.specs.JsonForm.{NestsWithin, Puts, array_of, text_or_null, with_members};
 
-use crate::draft::Filled;
 use serde_json::{Map, Number, Value, put};
 use sl_base_quotients::NoMemory;
+use sl_explain_texts::Filled;
 use std::alloc::Global;
 use std::marker::Model;
 

@@ -33,7 +33,7 @@ pub use json_form::json_text;
 pub use markdown_form::markdown_text;
 pub use names::{Name, Names};
 pub use shape::Shape;
-pub use sheet::{Head, Look, Sheet};
+pub use sheet::{ColumnForm, Head, Look, Sheet, Title};
 pub use shown::{Shown, shown_sheets};
 pub use text_form::aligned_text;
 pub use words::ALL;

@@ -3,10 +3,10 @@
 ghost use Rattle.std.specs.Prelude.{◌≡◌, ◌∷◌, IfOk, map, string_bytes};
 ghost use Rattle.sl_report_forms.specs.NameTexts as spec;
 
-use crate::draft::{Filled, copied};
+use crate::draft::copied;
 use crate::words::ALL;
 use sl_base_quotients::NoMemory;
-use sl_explain_texts::Language;
+use sl_explain_texts::{Filled, Language};
 use sl_law_meaning::{Item, Scope};
 use std::alloc::Global;
 
@@ -24,10 +24,9 @@ pub(crate) enum Length {
     Full,
 }
 
-/// The names of Länder, parties and winners by their numbers, and of the stages of a book; and the language of what is said beside them.
+/// The names of Länder, parties and winners by their numbers, and of the stages of a book.
 #[derive(Drop)]
 pub struct Names {
-    pub language: Language,
     /// Whether full names were given: otherwise each is the short one.
     pub are_full: bool,
     pub lands: Vec<Name>,
@@ -62,7 +61,6 @@ impl Names {
     /// No names.
     pub fn none(alloc: Global) -> Names {
         Names {
-            language: Language::English,
             are_full: false,
             lands: Vec::new(alloc),
             parties: Vec::new(alloc),

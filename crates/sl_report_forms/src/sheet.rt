@@ -1,10 +1,15 @@
 //! Sheets: a key, a title, the heads of the columns, and rows.
 
-ghost use Rattle.std.specs.Prelude.{◌≡◌, ◌∷◌, [], IfOk, OnOk, string_bytes};
-ghost use Rattle.sl_report_forms.specs.Tables.{blank_table, contents_of, table_of, with_columns, with_rows};
+ghost use Rattle.std.specs.Prelude.{◌≡◌, ◌++◌, ◌∷◌, [], IfOk, OnOk, codes, map, string_bytes};
+ghost use Rattle.sl_report_forms.specs.Heads.{head_key, head_look, head_text, title_text};
+ghost use Rattle.sl_report_forms.specs.Tables.{blank_table, column_of, contents_of, heads_of, table_of, under, with_heads, with_rows};
 
 use crate::cell::Cell;
+use crate::draft::copied;
+use crate::names::Names;
 use sl_base_quotients::NoMemory;
+use sl_explain_texts::{Language, Message};
+use sl_law_meaning::Scope;
 use std::alloc::Global;
 
 /// How a column looks in aligned text.
@@ -18,54 +23,141 @@ pub enum Look {
     Number,
 }
 
-/// The head of a column: the key of its cells in CSV and in JSON, its title in text, and its look.
+/// A column of a kind of sheets: the key of its cells in CSV and in JSON, what stands over it in English and in German, and its look.
+pub type ColumnForm = (&'static str, &'static str, &'static str, Look);
+
+/// The head of a column.
 #[derive(Drop)]
-pub struct Head {
-    pub key: String,
-    pub title: String,
-    pub look: Look,
+pub enum Head {
+    Column(ColumnForm),
+    /// A word over numbers, which is their key too.
+    Word(String),
+}
+
+/// The title of a sheet.
+#[derive(Clone, Copy)]
+pub enum Title {
+    Words(Message),
+    /// A word before the name of a stage.
+    Stage(Message, usize),
+    /// A word before the name of a stage and that of a scope in it.
+    Scope(Message, usize, Scope),
 }
 
 /// A sheet. Sheets of one key have the same columns: they are one table, of which text shows each sheet under its title.
 #[derive(Drop)]
 pub struct Sheet {
     pub key: &'static str,
-    pub title: String,
+    pub title: Title,
     pub heads: Vec<Head>,
     pub rows: Vec<Vec<Cell>>,
 }
 
 impl Head {
-    /// The head of a column.
-    pub fn new(alloc: Global, key: &str, title: &str, look: Look) -> Result<Head, NoMemory>
-        ensures { IfOk result (λ h. string_bytes h.key ≡ key.now) }
+    /// The key of the cells.
+    pub fn key(&self) -> &str
+        ensures { result.now ≡ head_key self.now }
     {
-        Ok(Head {
-            key: String::from_str(alloc, key)?,
-            title: String::from_str(alloc, title)?,
-            look,
-        })
+        match self {
+            Head::Column(column) => column.0,
+            Head::Word(word) => word.as_str(),
+        }
+    }
+
+    // What stands over the column in a language.
+    pub(crate) fn text(&self, language: Language) -> &str
+        ensures { result.now ≡ head_text language self.now }
+    {
+        match self {
+            Head::Column(column) => Message(column.1, column.2).in_language(language),
+            Head::Word(word) => word.as_str(),
+        }
+    }
+
+    pub(crate) fn look(&self) -> Look
+        ensures { result ≡ head_look self.now }
+    {
+        match self {
+            Head::Column(column) => column.3,
+            Head::Word(_) => Look::Number,
+        }
+    }
+}
+
+// A word before a name.
+fn titled(alloc: Global, word: &str, name: &str) -> Result<String, NoMemory>
+    ensures { IfOk result (λ t. string_bytes t ≡ word.now ++ codes " " ++ name.now) }
+{
+    Ok(format!(in alloc; "{word} {name}")?)
+}
+
+// A title with a name behind it.
+fn titled_in(alloc: Global, title: &str, name: &str) -> Result<String, NoMemory>
+    ensures { IfOk result (λ t. string_bytes t ≡ title.now ++ codes ", " ++ name.now) }
+{
+    Ok(format!(in alloc; "{title}, {name}")?)
+}
+
+// The heads of these columns.
+fn heads_of(alloc: Global, columns: &[ColumnForm]) -> Result<Vec<Head>, NoMemory>
+    ensures { IfOk result (λ v. map column_of v.items ≡ heads_of columns.now) }
+{
+    let mut heads: Vec<Head> = Vec::new(alloc);
+    for column in columns {
+        heads.push(Head::Column(*column))?;
+    }
+    Ok(heads)
+}
+
+impl Title {
+    // The title in a language, by these names.
+    pub(crate) fn text(
+        self,
+        alloc: Global,
+        language: Language,
+        names: &Names,
+    ) -> Result<String, NoMemory>
+        ensures { IfOk result (λ t. string_bytes t ≡ title_text language names.now self) }
+    {
+        match self {
+            Title::Words(words) => copied(alloc, words.in_language(language)),
+            Title::Stage(word, stage) => {
+                titled(alloc, word.in_language(language), names.stage(stage))
+            }
+            Title::Scope(word, stage, scope) => {
+                let title = titled(alloc, word.in_language(language), names.stage(stage))?;
+                let scope = names.scope_name(alloc, language, scope)?;
+                titled_in(alloc, title.as_str(), scope.as_str())
+            }
+        }
     }
 }
 
 impl Sheet {
-    /// A sheet without columns and rows. Takes no memory.
-    pub fn new(alloc: Global, key: &'static str, title: String) -> Sheet
-        ensures { table_of result ≡ blank_table key.now [] }
+    /// A sheet without rows.
+    pub fn new(
+        alloc: Global,
+        key: &'static str,
+        title: Title,
+        columns: &[ColumnForm],
+    ) -> Result<Sheet, NoMemory>
+        ensures { IfOk result (λ s. table_of s ≡ blank_table key.now (heads_of columns.now)) }
     {
-        Sheet {
+        let heads = heads_of(alloc, columns)?;
+        Ok(Sheet {
             key,
             title,
-            heads: Vec::new(alloc),
+            heads,
             rows: Vec::new(alloc),
-        }
+        })
     }
 
-    /// Adds a column.
-    pub fn push_head(&mut self, head: Head) -> Result<(), NoMemory>
-        ensures { OnOk result (table_of self.new ≡ with_columns (table_of self.old) (string_bytes head.key ∷ [])) }
+    /// Adds a column of numbers under a word.
+    pub fn push_word(&mut self, word: &str) -> Result<(), NoMemory>
+        ensures { OnOk result (table_of self.new ≡ with_heads (table_of self.old) (under word.now ∷ [])) }
     {
-        self.heads.push(head)?;
+        let word = String::from_str(*self.heads.allocator(), word)?;
+        self.heads.push(Head::Word(word))?;
         Ok(())
     }
 

@@ -4,10 +4,11 @@ ghost use Rattle.std.specs.Prelude.{◌≡◌, ◌==◌, IfOk, length, map, slic
 ghost use Rattle.sl_report_forms.specs.Shown as spec;
 
 use crate::cell::{Cell, Reader};
-use crate::draft::{Filled, copied};
+use crate::draft::copied;
 use crate::names::Names;
 use crate::sheet::{Head, Look, Sheet};
 use sl_base_quotients::NoMemory;
+use sl_explain_texts::{Filled, Language};
 use std::alloc::Global;
 
 /// A column of a sheet that is shown: its place, and its look.
@@ -60,13 +61,22 @@ fn is_shown(sheet: &Sheet, column: ShownColumn) -> bool
     !is_hidden(column.look) && has_text(sheet, column.place)
 }
 
+// The column of a head at a place.
+fn place_of(place: usize, head: &Head) -> ShownColumn
+    ensures { result ≡ spec.place_of (place, head.now) }
+{
+    ShownColumn {
+        place,
+        look: head.look(),
+    }
+}
+
 fn columns(alloc: Global, sheet: &Sheet) -> Result<Vec<ShownColumn>, NoMemory>
     ensures { IfOk result (λ v. v.items ≡ spec.shown_columns sheet.now) }
 {
     let mut columns = Filled::new(alloc);
     for (place, head) in sheet.heads.iter().enumerate() {
-        let look = head.look;
-        let column = ShownColumn { place, look };
+        let column = place_of(place, head);
         if is_shown(sheet, column) {
             columns.push(Ok(column));
         }
@@ -74,13 +84,18 @@ fn columns(alloc: Global, sheet: &Sheet) -> Result<Vec<ShownColumn>, NoMemory>
     columns.finished()
 }
 
-fn titles(alloc: Global, heads: &[Head], columns: &[ShownColumn]) -> Result<Vec<String>, NoMemory>
-    ensures { IfOk result (λ v. map string_bytes v.items ≡ spec.titles_in columns.now heads.now) }
+fn titles(
+    alloc: Global,
+    language: Language,
+    heads: &[Head],
+    columns: &[ShownColumn],
+) -> Result<Vec<String>, NoMemory>
+    ensures { IfOk result (λ v. map string_bytes v.items ≡ spec.titles_in language columns.now heads.now) }
 {
     let mut titles = Filled::new(alloc);
     for column in columns {
         if let Some(head) = heads.get(column.place) {
-            titles.push(copied(alloc, head.title.as_str()));
+            titles.push(copied(alloc, head.text(language)));
         }
     }
     titles.finished()
@@ -89,16 +104,17 @@ fn titles(alloc: Global, heads: &[Head], columns: &[ShownColumn]) -> Result<Vec<
 // The texts of a row in these columns.
 fn shown_row(
     alloc: Global,
+    language: Language,
     names: &Names,
     row: &[Cell],
     columns: &[ShownColumn],
 ) -> Result<Vec<String>, NoMemory>
-    ensures { IfOk result (λ v. map string_bytes v.items ≡ spec.texts_in names.now columns.now row.now) }
+    ensures { IfOk result (λ v. map string_bytes v.items ≡ spec.texts_in language names.now columns.now row.now) }
 {
     let mut texts = Filled::new(alloc);
     for column in columns {
         if let Some(cell) = row.get(column.place) {
-            texts.push(cell.text(alloc, names, Reader::Person));
+            texts.push(cell.text(alloc, names, Reader::Person(language)));
         }
     }
     texts.finished()
@@ -106,15 +122,16 @@ fn shown_row(
 
 fn shown_rows(
     alloc: Global,
+    language: Language,
     names: &Names,
     sheet: &Sheet,
     columns: &[ShownColumn],
 ) -> Result<Vec<Vec<String>>, NoMemory>
-    ensures { IfOk result (λ v. map (λ r. map string_bytes r.items) v.items ≡ map (λ r. spec.texts_in names.now columns.now r.items) sheet.now.rows.items) }
+    ensures { IfOk result (λ v. map (λ r. map string_bytes r.items) v.items ≡ map (λ r. spec.texts_in language names.now columns.now r.items) sheet.now.rows.items) }
 {
     let mut rows = Filled::new(alloc);
     for row in &sheet.rows {
-        rows.push(shown_row(alloc, names, row.as_slice(), columns));
+        rows.push(shown_row(alloc, language, names, row.as_slice(), columns));
     }
     rows.finished()
 }
@@ -129,13 +146,18 @@ impl Shown {
 }
 
 // What is shown of a sheet: nothing where no row has something in a column that is not hidden.
-fn shown_of(alloc: Global, names: &Names, sheet: &Sheet) -> Result<Shown, NoMemory>
-    ensures { IfOk result (λ v. spec.view_in v ≡ spec.view_of names.now sheet.now) }
+fn shown_of(
+    alloc: Global,
+    language: Language,
+    names: &Names,
+    sheet: &Sheet,
+) -> Result<Shown, NoMemory>
+    ensures { IfOk result (λ v. spec.view_in v ≡ spec.view_of language names.now sheet.now) }
 {
-    let title = copied(alloc, sheet.title.as_str())?;
+    let title = sheet.title.text(alloc, language, names)?;
     let columns = columns(alloc, sheet)?;
-    let titles = titles(alloc, sheet.heads.as_slice(), columns.as_slice())?;
-    let rows = shown_rows(alloc, names, sheet, columns.as_slice())?;
+    let titles = titles(alloc, language, sheet.heads.as_slice(), columns.as_slice())?;
+    let rows = shown_rows(alloc, language, names, sheet, columns.as_slice())?;
     Ok(Shown {
         key: sheet.key,
         title,
@@ -145,13 +167,18 @@ fn shown_of(alloc: Global, names: &Names, sheet: &Sheet) -> Result<Shown, NoMemo
     })
 }
 
-/// What is shown of each sheet that has a column which is, by these names.
-pub fn shown_sheets(alloc: Global, names: &Names, sheets: &[Sheet]) -> Result<Vec<Shown>, NoMemory>
-    ensures { IfOk result (λ v. map spec.view_in v.items ≡ spec.views_of names.now sheets.now) }
+/// What is shown in a language of each sheet that has a column which is, by these names.
+pub fn shown_sheets(
+    alloc: Global,
+    language: Language,
+    names: &Names,
+    sheets: &[Sheet],
+) -> Result<Vec<Shown>, NoMemory>
+    ensures { IfOk result (λ v. map spec.view_in v.items ≡ spec.views_of language names.now sheets.now) }
 {
     let mut all: Vec<Shown> = Vec::new(alloc);
     for sheet in sheets {
-        let shown = shown_of(alloc, names, sheet)?;
+        let shown = shown_of(alloc, language, names, sheet)?;
         if !shown.is_empty() {
             all.push(shown)?;
         }

@@ -9,11 +9,12 @@ ghost use Rattle.sl_report_forms.specs.MarkdownForm.{Becomes, with_blocks};
 ghost use Rattle.sl_report_forms.specs.Shown.{view_in};
 ghost use Rattle.sl_report_forms.specs.TextForm as spec;
 
-use crate::draft::{Draft, Filled};
+use crate::draft::Draft;
 use crate::markdown_form::put_gap;
 use crate::sheet::Look;
 use crate::shown::{Shown, ShownColumn};
 use sl_base_quotients::NoMemory;
+use sl_explain_texts::Filled;
 use std::alloc::Global;
 use unicode_width::{UnicodeWidthChar, UnicodeWidthStr};
 

@@ -1,8 +1,6 @@
 -- Tables, one row more, and rows, one part more.
 use Rattle.std.proofs.Common.{◌≡◌, ◌∙◌, ◌≤◌, ℕ, ◌+◌, Bool, List, [], ◌∷◌, ◌++◌, None, Option, Some, append_assoc, ap, arith, filter, length, map, refl, sym, take}
-use Rattle.std.proofs.lemmas.List.Concat.{flat_map-append}
-use Rattle.std.proofs.lemmas.List.{append-nil, take_all, take_more}
-use Rattle.std.proofs.lemmas.Option.{get_or_from_slice_get, slice_get_within}
+use Rattle.std.proofs.lemmas.List.{take_all}
 use Rattle.std.proofs.lemmas.Simd.{map-map}
 use Rattle.std.proofs.lemmas.Slice.Zip.{length-zip}
 use Rattle.std.specs.List.{flat_map, range_with_len, zip}
@@ -10,16 +8,6 @@ use Rattle.std.specs.Prelude.{if◌then◌else◌, min, slice_get}
 use Rattle.sl_report_forms.specs.Cells.{Content}
 use Rattle.sl_report_forms.specs.Tables.{Table, with_rows}
 use Rattle.sl_report_parties.proofs.Steps.{filtered_more, kept_more, map_next, mapped_more, pieces_more}
-
--- the pieces of one element more, after others
-pub pieces_next : {X Y : Type 0} (f : X → List Y) (xs : List X) (i : ℕ) (x : X) (front ys zs : List Y) → slice_get xs i ≡ Some x →
-    ys ≡ front ++ flat_map f (take i xs) → zs ≡ ys ++ f x → zs ≡ front ++ flat_map f (take (i + 1) xs)
-pieces_next f xs i x front ys zs at so_far more =
-    more ∙ ap (λ v. v ++ f x) so_far ∙ append_assoc front (flat_map f (take i xs)) (f x)
-    ∙ ap (λ v. front ++ v) (
-    ap (λ v. flat_map f (take i xs) ++ v) (sym (append-nil (f x)))
-    ∙ sym (flat_map-append f (take i xs) (x ∷ []))
-    ∙ ap (flat_map f) (sym (take_more xs i x (slice_get_within xs i x at) ∙ ap (λ y. take i xs ++ y ∷ []) (get_or_from_slice_get xs i x x at))))
 
 rows_then : (t before after : Table) (xs ys : List (List Content)) → before ≡ with_rows t xs → after ≡ with_rows before ys → after ≡ with_rows t (xs ++ ys)
 rows_then t before after xs ys so_far more =
@@ -59,16 +47,6 @@ pub rows_next : {X : Type 0} (f : X → List Content) (xs : List X) (i : ℕ) (x
 rows_next f xs i x t before after at so_far more =
     rows_then t before after (map f (take i xs)) (f x ∷ []) so_far more
     ∙ ap (with_rows t) (map_next f xs i x (map f (take i xs)) (map f (take i xs) ++ f x ∷ []) (f x) at refl refl refl)
-
--- the rows of one element more
-pub rows_flat : {X : Type 0} (f : X → List (List Content)) (xs : List X) (i : ℕ) (x : X) (t before after : Table) → slice_get xs i ≡ Some x →
-    before ≡ with_rows t (flat_map f (take i xs)) → after ≡ with_rows before (f x) → after ≡ with_rows t (flat_map f (take (i + 1) xs))
-rows_flat f xs i x t before after at so_far more =
-    rows_then t before after (flat_map f (take i xs)) (f x) so_far more
-    ∙ ap (with_rows t) (pieces_next f xs i x [] (flat_map f (take i xs)) (flat_map f (take i xs) ++ f x) at refl refl)
-
-pub rows_all : {X : Type 0} (f : X → List Content) (xs : List X) (i : ℕ) (t after : Table) → length xs ≤ i → after ≡ with_rows t (map f (take i xs)) → after ≡ with_rows t (map f xs)
-rows_all f xs i t after past so_far = so_far ∙ ap (λ ys. with_rows t (map f ys)) (take_all i xs past)
 
 -- the row of one element more, if it passes a test
 pub rows_kept : {X : Type 0} (f : X → List Content) (p : X → Bool) (xs : List X) (i : ℕ) (x : X) (t before after : Table) → slice_get xs i ≡ Some x →

@@ -4,8 +4,7 @@ use Rattle.std.proofs.lemmas.List.Concat.{flat_map-append}
 use Rattle.std.proofs.lemmas.List.{append-nil, map_push, take_all}
 use Rattle.std.proofs.lemmas.Result.{IfOk-at_ok}
 use Rattle.std.specs.List.{AllZip, flat_map, range_with_len}
-use Rattle.std.specs.Prelude.{Err, IfOk, Ok, Result, option_map, slice_get}
-use Rattle.std.specs.Result.{result_and}
+use Rattle.std.specs.Prelude.{IfOk, Ok, Result, option_map, slice_get}
 use Rattle.sl_base_quotients.specs.declared.no_memory.NoMemory.{NoMemory}
 use Rattle.sl_report_forms.specs.Tables.{Table, table_of}
 use Rattle.sl_report_forms.specs.declared.sheet.Sheet.{Sheet}
@@ -33,12 +32,6 @@ module _ {r : Result Sheet NoMemory} {ts : List Table} (before after : List Shee
     IfOk-at_ok (λ s. P (table_of s)) more.1 is,
     table_pushed before after more.0 (table_of more.0) more.2 refl ∙ ap (λ v. v ++ table_of more.0 ∷ []) so_far,
   )
-
--- for a last call by `and`, whose value is given if another call succeeds
-pub and_equal : {X T U E : Type 0} (f : U → X) (r : Result T E) (u : U) (x y : X) {all : Result U E} → all ≡ result_and r (Ok u) → IfOk r (λ _. f u ≡ x) → x ≡ y →
-    IfOk all (λ v. f v ≡ y)
-and_equal f (Ok t) u x y is so e = subst (λ r. IfOk r (λ v. f v ≡ y)) (sym is) (so ∙ e)
-and_equal f (Err e) u x y is so same = subst (λ r. IfOk r (λ v. f v ≡ y)) (sym is) tt
 
 module _ {X : Type 0} (f : X → Table) (xs : List X) (i : ℕ) where
   -- the table of one element more, after others

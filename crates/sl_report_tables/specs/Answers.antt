@@ -4,6 +4,7 @@ use Rattle.std.specs.Str.{IsUtf8}
 use Rattle.sl_count_inputs.specs.declared.status.Status.TheVariants.{Done, Refused}
 use Rattle.sl_count_inputs.specs.Statuses.{status_number}
 use Rattle.sl_count_inputs.specs.declared.status.Status.{Status}
+use Rattle.sl_explain_texts.specs.declared.language.Language.{Language}
 use Rattle.sl_report_forms.specs.CommaForm.{IsCommaText}
 use Rattle.sl_report_forms.specs.HtmlForm.{html_page}
 use Rattle.sl_report_forms.specs.JsonForm.{IsJsonText}
@@ -35,8 +36,8 @@ abbrev pub IsRefusedBy : List ℕ → Answer → Type 0
 IsRefusedBy line a = IsRefusal a × (a.line.items ≡ line)
 
 -- what a person sees of its sheets
-abbrev pub views_in : Answer → List View
-views_in a = views_of a.names a.sheets.items
+abbrev pub views_in : Language → Answer → List View
+views_in language a = views_of language a.names a.sheets.items
 
 -- ---- texts
 
@@ -60,9 +61,9 @@ abbrev pub IsTextOf : Shape → Heading → Status → Answer → List ℕ → T
 IsTextOf shape.Json heading status a text = OfLine (λ line. IsJsonText heading (status_number status) line a.names a.sheets.items text) a
 IsTextOf shape heading Refused a text = text ≡ a.line.items
 IsTextOf shape.Comma heading status a text = IsCommaText a.names a.sheets.items text
-IsTextOf shape.Markdown heading status a text = OfLine (λ line. text ≡ markdown_of line (views_in a)) a
-IsTextOf shape.Html heading status a text = OfLine (λ line. (title : List ℕ) × (text ≡ html_page heading.language title line (views_in a))) a
-IsTextOf shape.Text heading status a text = text ≡ below_line a.line.items (aligned_of (views_in a))
+IsTextOf shape.Markdown heading status a text = OfLine (λ line. text ≡ markdown_of line (views_in heading.language a)) a
+IsTextOf shape.Html heading status a text = OfLine (λ line. (title : List ℕ) × (text ≡ html_page heading.language title line (views_in heading.language a))) a
+IsTextOf shape.Text heading status a text = text ≡ below_line a.line.items (aligned_of (views_in heading.language a))
 
 abbrev pub IsAnswerText : Shape → Heading → Answer → List ℕ → Type 0
 IsAnswerText shape heading a text = IsTextOf shape heading a.status a text

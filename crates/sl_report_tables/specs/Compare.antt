@@ -2,9 +2,10 @@
 use Rattle.std.specs.List.{AllZip, flat_map, list_any}
 use Rattle.std.specs.Prelude.{◌≡◌, ℕ, ◌-◌, Bool, ◌&&◌, List, [], ◌∷◌, ◌++◌, Option, Some, None, codes, count_by, drop, filter, if◌then◌else◌, map, nat_eq, nat_lt, option_map, string_bytes, sum_by, unwrap_or}
 use Rattle.sl_report_forms.specs.Cells.{Content, a_change, a_number, a_text, an_entry, known, nothing}
-use Rattle.sl_report_forms.specs.Tables.{Table}
+use Rattle.sl_report_forms.specs.Tables.{Table, under}
 use Rattle.sl_report_parties.specs.Seats.{all_seats, is_open, party_seats}
 use Rattle.sl_report_parties.specs.Sums.{capped}
+use Rattle.sl_report_tables.specs.Columns.{listed}
 use Rattle.sl_report_tables.specs.Parties.{house_of}
 use Rattle.sl_report_tables.specs.Faults.{kind_cell}
 use Rattle.sl_report_tables.specs.Naming.{text_of}
@@ -17,6 +18,9 @@ use Rattle.sl_law_meaning.specs.declared.fault.LegalFault.{LegalFault}
 use Rattle.sl_law_meaning.specs.declared.table.ListSeats.{ListSeats}
 use Rattle.sl_law_meaning.specs.returns.Election.{Election, has_list}
 use Rattle.sl_law_meaning.specs.returns.Facts.{lands, parties}
+use Rattle.sl_report_tables.specs.declared.lists_compared.TheConstants as lists_compared_columns
+use Rattle.sl_report_tables.specs.declared.compare.TheConstants as compare_columns
+use Rattle.sl_report_tables.specs.declared.changes.TheConstants as changes_columns
 
 -- the word for a legal fault, where there is one
 abbrev pub fault_cell : Option LegalFault → Content
@@ -48,7 +52,7 @@ IsBookRow e j row = (differs : Content) × (row ≡ book_row e j differs)
 
 pub record IsBooksTable (e : Election) (books : List Judged) (t : Table) : Type 0 where
   pub key : t.key ≡ codes "books"
-  pub columns : t.columns ≡ codes "book" ∷ codes "law" ∷ codes "seats" ∷ codes "beyond" ∷ codes "open" ∷ codes "differs" ∷ codes "fault" ∷ []
+  pub columns : t.columns ≡ listed compare_columns.BOOKS
   pub rows : AllZip (IsBookRow e) books t.rows
 
 -- ---- who is compared: all together, and then each party
@@ -81,7 +85,7 @@ compared_row e books party = compared_name party ++ map (compared_cell e party) 
 abbrev pub compare_table : Election → List Judged → Table
 compare_table e books = record {
   key = codes "compare";
-  columns = codes "party" ∷ codes "party_name" ∷ map (λ j. string_bytes j.word) books;
+  columns = listed compare_columns.COMPARE ++ map (λ j. under (string_bytes j.word)) books;
   rows = map (compared_row e books) (compared e);
 }
 
@@ -118,7 +122,7 @@ change_rows e (first ∷ second ∷ more) = rows_from first.counted (map (change
 abbrev pub changes_table : Election → List Judged → Table
 changes_table e books = record {
   key = codes "changes";
-  columns = codes "party" ∷ codes "party_name" ∷ map (λ j. string_bytes j.word) (drop 1 books);
+  columns = listed compare_columns.COMPARE ++ map (λ j. under (string_bytes j.word)) (drop 1 books);
   rows = change_rows e books;
 }
 
@@ -153,7 +157,7 @@ list_seats_rows e books land = map (list_seats_row books land) (filter (has_seat
 abbrev pub list_seats_table : Election → List Judged → Table
 list_seats_table e books = record {
   key = codes "list_seats";
-  columns = codes "land" ∷ codes "land_name" ∷ codes "party" ∷ codes "party_name" ∷ map (λ j. string_bytes j.word) books;
+  columns = listed lists_compared_columns.LISTS ++ map (λ j. under (string_bytes j.word)) books;
   rows = flat_map (list_seats_rows e books) (lands e);
 }
 
@@ -170,7 +174,7 @@ seats_rows e (first ∷ others) = flat_map (λ j. map (seats_row e first j) (com
 abbrev pub seats_table : Election → List Judged → Table
 seats_table e books = record {
   key = codes "seats";
-  columns = codes "book" ∷ codes "party" ∷ codes "party_name" ∷ codes "seats" ∷ codes "change" ∷ [];
+  columns = listed changes_columns.EACH;
   rows = seats_rows e books;
 }
 

@@ -8,6 +8,8 @@ use Rattle.sl_report_forms.specs.Tables.{Table}
 use Rattle.sl_law_meaning.specs.declared.fault.FaultKind.TheVariants as kind
 use Rattle.sl_law_meaning.specs.declared.fault.FaultKind.{FaultKind}
 use Rattle.sl_law_meaning.specs.declared.fault.LegalFault.{LegalFault}
+use Rattle.sl_report_tables.specs.Columns.{listed}
+use Rattle.sl_report_tables.specs.declared.faults.TheConstants as faults_columns
 
 -- the seats of a tie
 abbrev pub tied_seats : FaultKind → Content
@@ -36,13 +38,13 @@ code_cell (Some code) = a_word (code_word code) (code_word code)
 abbrev pub fault_table : LegalFault → Table
 fault_table f = record {
   key = codes "fault";
-  columns = codes "code" ∷ codes "stage" ∷ codes "scope" ∷ codes "scope_name" ∷ codes "kind" ∷ codes "seats" ∷ codes "names" ∷ [];
+  columns = listed faults_columns.FAULT;
   rows = (code_cell (Some (legal_code f)) ∷ a_stage f.stage ∷ a_scope f.scope ∷ a_scope_name f.scope ∷ kind_cell f.kind ∷ tied_seats f.kind ∷ tied f.kind ∷ []) ∷ [];
 }
 
 -- sentences, of which no definition tells the words
 abbrev pub IsExplanation : Table → Type 0
-IsExplanation t = (t.key ≡ codes "explanation") × (t.columns ≡ codes "text" ∷ [])
+IsExplanation t = (t.key ≡ codes "explanation") × (t.columns ≡ listed faults_columns.EXPLANATION)
 
 -- the fault, and its explanation
 abbrev pub AreFaultTables : LegalFault → List Table → Type 0

@@ -8,6 +8,7 @@ pub mod Steps
 pub mod Faults
 pub mod Totals
 pub mod Words
+pub mod Columns
 pub mod Compare
 pub mod Names
 pub mod Naming

@@ -8,6 +8,7 @@ use Rattle.sl_report_parties.specs.Ranks.{AreContested}
 use Rattle.sl_report_parties.specs.Seats.{all_seats, is_open, is_single, party_seats}
 use Rattle.sl_report_parties.specs.declared.contests.Ranked.{Ranked}
 use Rattle.sl_report_parties.specs.declared.seats.Seats.{Seats}
+use Rattle.sl_report_tables.specs.Columns.{listed}
 use Rattle.sl_report_tables.specs.Naming.{text_of}
 use Rattle.sl_report_tables.specs.Parts.{condition_cell, full_name, party_cell, party_name_cell, percent_cell, percent_exact_cell}
 use Rattle.sl_law_meaning.specs.declared.book.Book.{Book}
@@ -23,6 +24,9 @@ use Rattle.sl_law_meaning.specs.meaning.Tables.{SeatTable}
 use Rattle.sl_law_meaning.specs.returns.Election.{Election, lands_of, list_at, parties_of}
 use Rattle.sl_law_meaning.specs.returns.Facts.{all_valid_votes, meets, parties}
 use Rattle.sl_law_meaning.specs.returns.Votes.{counted_in, valid_in}
+use Rattle.sl_report_tables.specs.declared.parties.TheConstants as parties_columns
+use Rattle.sl_report_tables.specs.declared.covering.TheConstants as covering_columns
+use Rattle.sl_report_tables.specs.declared.counted.TheConstants as counted_columns
 
 -- seats, where a table is known
 abbrev pub seat_cells : Option Seats → List Content
@@ -37,7 +41,7 @@ house_of b e = unwrap_or e.house b.house.value
 abbrev pub law_table : Book → (house : ℕ) → Option SeatTable → Table
 law_table b house t = record {
   key = codes "law";
-  columns = codes "law" ∷ codes "house" ∷ codes "seats" ∷ codes "direct" ∷ codes "vacant" ∷ [];
+  columns = listed counted_columns.LAW;
   rows = (a_text (text_of b.law.items) ∷ a_number house ∷ seat_cells (option_map all_seats t)) ∷ [];
 }
 
@@ -53,8 +57,7 @@ party_row conditions e t party =
 abbrev pub parties_table : List Cond → Election → Option SeatTable → Table
 parties_table conditions e t = record {
   key = codes "parties";
-  columns = codes "party" ∷ codes "party_name" ∷ codes "valid" ∷ codes "percent" ∷ codes "percent_exact" ∷ codes "counted" ∷ codes "condition"
-      ∷ codes "seats" ∷ codes "direct" ∷ codes "vacant" ∷ [];
+  columns = listed parties_columns.PARTIES;
   rows = map (party_row conditions e t) (parties e);
 }
 
@@ -74,8 +77,7 @@ is_shown_list any e l =
 abbrev pub lists_table : (any : Bool) → Election → SeatTable → Table
 lists_table any e t = record {
   key = codes "lists";
-  columns = codes "land" ∷ codes "land_name" ∷ codes "party" ∷ codes "party_name" ∷ codes "valid" ∷ codes "counted" ∷ codes "seats"
-      ∷ codes "direct" ∷ codes "vacant" ∷ [];
+  columns = listed parties_columns.LISTS;
   rows = map (list_row e) (filter (is_shown_list any e) t.lists);
 }
 
@@ -101,7 +103,7 @@ has_place placed.Unseated place = is_open place
 abbrev pub placed_table : List ℕ → (Placed → Bool) → Election → SeatTable → Table
 placed_table name has e t = record {
   key = name;
-  columns = codes "constituency" ∷ codes "constituency_name" ∷ codes "land" ∷ codes "land_name" ∷ codes "party" ∷ codes "party_name" ∷ [];
+  columns = listed parties_columns.WINNERS;
   rows = map (λ x. winner_row x.0) (filter (λ x. has x.1) (zip (enumerate_from 0 e.wins) t.placed));
 }
 
@@ -128,7 +130,6 @@ ranked_row w =
 abbrev pub covering_table : List Ranked → Table
 covering_table ws = record {
   key = codes "covering";
-  columns = codes "land" ∷ codes "land_name" ∷ codes "party" ∷ codes "party_name" ∷ codes "constituency" ∷ codes "constituency_name" ∷ codes "first"
-      ∷ codes "valid" ∷ codes "percent" ∷ codes "percent_exact" ∷ codes "rank" ∷ codes "seated" ∷ [];
+  columns = listed covering_columns.COVERING;
   rows = map ranked_row ws;
 }

@@ -2,7 +2,7 @@
 use Rattle.std.specs.List.{AllZip}
 use Rattle.std.specs.Prelude.{◌≡◌, ℕ, Bool, true, false, List, [], ◌∷◌, ◌++◌, Option, None, Some, codes, filter, length, map, option_map, take}
 use Rattle.sl_report_forms.specs.Cells.{Content, a_change, a_number, a_text, a_word, an_entry, known, nothing, prose}
-use Rattle.sl_report_forms.specs.Tables.{Table}
+use Rattle.sl_report_forms.specs.Tables.{Column, Table}
 use Rattle.sl_report_parties.specs.Earlier.{all_before, is_gone}
 use Rattle.sl_report_parties.specs.Lacking.{AreVotesFor, AreWinnersFor, Lacks}
 use Rattle.sl_report_parties.specs.Press.{AreLeftOut}
@@ -11,6 +11,7 @@ use Rattle.sl_report_parties.specs.declared.earlier.EarlierParty.{EarlierParty}
 use Rattle.sl_report_parties.specs.declared.press.Pressed.{Pressed}
 use Rattle.sl_report_parties.specs.declared.press.Standing.{Standing}
 use Rattle.sl_report_results.specs.declared.scopes.Scoped.{Scoped}
+use Rattle.sl_report_tables.specs.Columns.{listed}
 use Rattle.sl_report_tables.specs.Parts.{full_name, rounded_cell}
 use Rattle.sl_law_meaning.specs.declared.book.Cond.{Cond}
 use Rattle.sl_law_meaning.specs.declared.fault.Item.TheVariants as item
@@ -19,6 +20,7 @@ use Rattle.sl_law_meaning.specs.declared.fault.Scope.{Scope}
 use Rattle.sl_law_meaning.specs.meaning.Tables.{SeatTable}
 use Rattle.sl_law_meaning.specs.returns.Election.{Election}
 use Rattle.sl_law_meaning.specs.returns.Facts.{all_valid_votes}
+use Rattle.sl_report_tables.specs.declared.press.TheConstants.{LEFT_OUT, LEFT_OUT_SHORT, PRESS, PRESS_SHORT}
 
 -- ---- the parties in the order of their seats, and all together
 
@@ -51,10 +53,15 @@ sum_row e t earlier =
     ∷ a_number (length e.wins) ∷ a_number (all_seats t).direct ∷ a_number (all_valid_votes e)
     ∷ rounded_cell (all_valid_votes e) (all_valid_votes e) ∷ []
 
-abbrev pub press_table : Election → SeatTable → Option (List EarlierParty) → List Pressed → Table
-press_table e t earlier pressed = record {
+-- its columns, where full names are given and where none are
+abbrev pub press_columns : (are_full : Bool) → List Column
+press_columns true = listed PRESS
+press_columns false = listed PRESS_SHORT
+
+abbrev pub press_table : (are_full : Bool) → Election → SeatTable → Option (List EarlierParty) → List Pressed → Table
+press_table are_full e t earlier pressed = record {
   key = codes "press";
-  columns = codes "party" ∷ codes "party_name" ∷ codes "seats" ∷ codes "before" ∷ codes "change" ∷ codes "won" ∷ codes "direct" ∷ codes "valid" ∷ codes "percent" ∷ [];
+  columns = press_columns are_full;
   rows = map (press_row (all_valid_votes e)) pressed ++ (gone_rows e earlier ++ sum_row e t earlier ∷ []);
 }
 
@@ -84,10 +91,14 @@ pub record IsLackingRow (conditions : List Cond) (e : Election) (s : Standing) (
   pub lacks_winners : Lacks (AreWinnersFor s.part.winners) conditions s.part.met winners
   pub row_is : row ≡ lacking_row e s votes winners
 
+abbrev pub lacking_columns : (are_full : Bool) → List Column
+lacking_columns true = listed LEFT_OUT
+lacking_columns false = listed LEFT_OUT_SHORT
+
 -- the first of the parties that meet no condition, by their valid votes
-pub record IsLackingTable (conditions : List Cond) (e : Election) (t : Table) : Type 0 where
+pub record IsLackingTable (are_full : Bool) (conditions : List Cond) (e : Election) (t : Table) : Type 0 where
   pub key : t.key ≡ codes "left_out"
-  pub columns : t.columns ≡ codes "party" ∷ codes "party_name" ∷ codes "valid" ∷ codes "percent" ∷ codes "votes_short" ∷ codes "winners_short" ∷ []
+  pub columns : t.columns ≡ lacking_columns are_full
   pub left_out : List Standing
   pub are_left_out : AreLeftOut conditions e left_out
   pub rows : AllZip (IsLackingRow conditions e) (take 1 left_out) t.rows

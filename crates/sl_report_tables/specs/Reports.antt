@@ -1,7 +1,7 @@
 -- Which tables each command shows (docs/report.md).
 use Rattle.std.specs.Borrow.{Bor}
 use Rattle.std.specs.List.{AllZip, range_with_len}
-use Rattle.std.specs.Prelude.{◌≡◌, false, true, ℕ, List, [], ◌∷◌, ◌++◌, Option, None, Some, filter, flat_map, get_or, length, option_map}
+use Rattle.std.specs.Prelude.{Bool, ◌≡◌, false, true, ℕ, List, [], ◌∷◌, ◌++◌, Option, None, Some, filter, flat_map, get_or, length, option_map}
 use Rattle.sl_count_texts.specs.Bounds.{AreBoundsOf}
 use Rattle.sl_count_texts.specs.declared.bounds.ScopeBounds.{ScopeBounds}
 use Rattle.sl_report_forms.specs.Tables.{Table}
@@ -80,8 +80,9 @@ module _ (b : Book) (e : Election) where
     pub scopes : List Scoped
     pub all : AreAllScopes c scopes
     pub lacking : Table
-    pub lacks : IsLackingTable b.eligible.items e lacking
-    pub tables_are : tables ≡ law_table b (house_of b e) (Some c.table) ∷ press_table e c.table earlier pressed ∷ scopes_table (filter is_whole scopes) ∷ lacking ∷ []
+    pub are_full : Bool
+    pub lacks : IsLackingTable are_full b.eligible.items e lacking
+    pub tables_are : tables ≡ law_table b (house_of b e) (Some c.table) ∷ press_table are_full e c.table earlier pressed ∷ scopes_table (filter is_whole scopes) ∷ lacking ∷ []
 
   -- ---- a legal fault
 

@@ -6,11 +6,13 @@ use Rattle.sl_report_forms.specs.Cells.{Content, a_decimal, a_flag, a_fraction, 
 use Rattle.sl_report_forms.specs.Tables.{Table}
 use Rattle.sl_report_results.specs.declared.scopes.Entry.{Entry}
 use Rattle.sl_report_results.specs.declared.scopes.Scoped.{Scoped}
+use Rattle.sl_report_tables.specs.Columns.{listed}
 use Rattle.sl_report_tables.specs.Lowest.{lowest_of}
 use Rattle.sl_report_tables.specs.Parts.{fraction_cell, fraction_exact_cell, land_side, party_side}
 use Rattle.sl_law_meaning.specs.declared.fault.Item.{Item}
 use Rattle.sl_lex.specs.Keywords.{spelling}
 use Rattle.sl_parse.specs.Words.{method_word}
+use Rattle.sl_report_tables.specs.declared.scopes.TheConstants as scopes_columns
 
 -- the entries of these numbers
 abbrev pub entries_at : Scoped → List ℕ → List Item
@@ -46,8 +48,7 @@ scope_row s =
 abbrev pub scopes_table : List Scoped → Table
 scopes_table scopes = record {
   key = codes "scopes";
-  columns = codes "stage" ∷ codes "scope" ∷ codes "scope_name" ∷ codes "method" ∷ codes "grows" ∷ codes "minima" ∷ codes "votes" ∷ codes "seats"
-      ∷ codes "divisor" ∷ codes "quota" ∷ codes "quota_exact" ∷ codes "last" ∷ codes "next" ∷ codes "lot" ∷ [];
+  columns = listed scopes_columns.SCOPES;
   rows = map scope_row scopes;
 }
 
@@ -61,8 +62,7 @@ entry_row s x =
 abbrev pub entries_table : Scoped → Table
 entries_table s = record {
   key = codes "entries";
-  columns = codes "stage" ∷ codes "scope" ∷ codes "entry" ∷ codes "entry_name" ∷ codes "land" ∷ codes "party" ∷ codes "votes" ∷ codes "quotient" ∷ codes "quotient_exact"
-      ∷ codes "seats" ∷ codes "minimum" ∷ codes "missing" ∷ codes "lot" ∷ codes "place" ∷ [];
+  columns = listed scopes_columns.ENTRIES;
   rows = map (entry_row s) s.entries.items;
 }
 

@@ -6,6 +6,7 @@ use Rattle.sl_base_terms.specs.declared.shape.Shape.{Shape}
 use Rattle.sl_report_forms.specs.Cells.{Content, a_number, a_stage, a_word, an_entry}
 use Rattle.sl_report_forms.specs.Tables.{Table}
 use Rattle.sl_report_parties.specs.Sums.{capped}
+use Rattle.sl_report_tables.specs.Columns.{listed}
 use Rattle.sl_report_tables.specs.Parts.{full_name}
 use Rattle.sl_law_meaning.specs.declared.book.ColumnType.{ColumnType}
 use Rattle.sl_law_meaning.specs.declared.book.Unit.TheVariants as unit
@@ -14,6 +15,7 @@ use Rattle.sl_law_meaning.specs.declared.count.Column.{Column}
 use Rattle.sl_law_meaning.specs.declared.fault.Item.{Item}
 use Rattle.sl_law_meaning.specs.meaning.Scopes.{entries_of, place}
 use Rattle.sl_law_meaning.specs.returns.Election.{Election}
+use Rattle.sl_report_tables.specs.declared.stages.TheConstants as stages_columns
 
 -- ---- the stages
 
@@ -43,7 +45,7 @@ stage_row_by types x = stage_row (unit_at types x.0) x
 abbrev pub stages_table : List ColumnType → List Column → Table
 stages_table types columns = record {
   key = codes "stages";
-  columns = codes "number" ∷ codes "stage" ∷ codes "shape" ∷ codes "unit" ∷ codes "sum" ∷ [];
+  columns = listed stages_columns.STAGES;
   rows = map (stage_row_by types) (enumerate_from 0 columns);
 }
 
@@ -71,7 +73,7 @@ cell_rows e stage shape.List c = map (cell_row e stage c) (entries_of e shape.Li
 abbrev pub cells_table : Election → ℕ × Column → Table
 cells_table e x = record {
   key = codes "cells";
-  columns = codes "stage" ∷ codes "entry" ∷ codes "entry_name" ∷ codes "value" ∷ [];
+  columns = listed stages_columns.CELLS;
   rows = cell_rows e x.0 x.1.shape x.1;
 }
 

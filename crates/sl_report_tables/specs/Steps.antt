@@ -9,8 +9,10 @@ use Rattle.sl_law_meaning.specs.declared.table.SeatStep.{SeatStep}
 use Rattle.sl_law_meaning.specs.meaning.Tables.{SeatTable}
 use Rattle.sl_report_forms.specs.Cells.{Content, a_flag, a_name, a_number, a_scope, a_scope_name, a_stage, a_text, an_entry}
 use Rattle.sl_report_forms.specs.Tables.{Table}
+use Rattle.sl_report_tables.specs.Columns.{listed}
 use Rattle.sl_report_tables.specs.Naming.{text_of}
 use Rattle.sl_report_tables.specs.Parts.{land_side, party_side}
+use Rattle.sl_report_tables.specs.declared.steps.TheConstants as steps_columns
 
 -- words as a line has them, with a blank between them
 abbrev pub words_text : List (List ℕ) → List ℕ
@@ -27,8 +29,7 @@ step_row x =
 abbrev pub steps_table : SeatTable → Table
 steps_table t = record {
   key = codes "steps";
-  columns = codes "stage" ∷ codes "scope" ∷ codes "scope_name" ∷ codes "entry" ∷ codes "entry_name" ∷ codes "land" ∷ codes "party" ∷ codes "number"
-      ∷ codes "step" ∷ codes "mark" ∷ [];
+  columns = listed steps_columns.STEPS;
   rows = map step_row (in_order step_key t.steps);
 }
 
@@ -41,6 +42,6 @@ bounds_row b =
 abbrev pub bounds_table : List ScopeBounds → Table
 bounds_table found = record {
   key = codes "bounds";
-  columns = codes "stage" ∷ codes "scope" ∷ codes "scope_name" ∷ codes "last" ∷ codes "next" ∷ codes "lot" ∷ [];
+  columns = listed steps_columns.BOUNDS;
   rows = map bounds_row found;
 }

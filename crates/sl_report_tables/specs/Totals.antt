@@ -8,6 +8,7 @@ use Rattle.sl_report_parties.specs.Lacking.{AreVotesFor, AreWinnersFor, Lacks}
 use Rattle.sl_report_parties.specs.Parts.{part_of}
 use Rattle.sl_report_parties.specs.Sums.{capped, is_alone_in, is_with, land_sum, lists_of, sum_in_all}
 use Rattle.sl_report_parties.specs.declared.parts.PartyPart.{PartyPart}
+use Rattle.sl_report_tables.specs.Columns.{listed}
 use Rattle.sl_report_tables.specs.Parts.{condition_cell, full_name, percent_cell, percent_exact_cell}
 use Rattle.sl_report_warnings.specs.Heads.{key_of}
 use Rattle.sl_report_warnings.specs.Warnings.{warnings_of}
@@ -19,11 +20,13 @@ use Rattle.sl_law_meaning.specs.declared.fault.Item.TheVariants as item
 use Rattle.sl_law_meaning.specs.returns.Election.{Election, lands_of, parties_of}
 use Rattle.sl_law_meaning.specs.returns.Facts.{all_valid_votes, is_in, lands, parties}
 use Rattle.sl_law_meaning.specs.returns.Votes.{counted_in, valid_in}
+use Rattle.sl_report_tables.specs.declared.warnings.TheConstants as warnings_columns
+use Rattle.sl_report_tables.specs.declared.totals.TheConstants as totals_columns
 
 abbrev pub totals_table : Election → Table
 totals_table e = record {
   key = codes "totals";
-  columns = codes "valid" ∷ codes "counted" ∷ codes "people" ∷ codes "lands" ∷ codes "parties" ∷ codes "lists" ∷ codes "winners" ∷ codes "independents" ∷ [];
+  columns = listed totals_columns.TOTALS;
   rows = (
       a_number (all_valid_votes e) ∷ a_number (sum_in_all counted_in e)
       ∷ a_number (capped (sum_by (slice_index e.populations) (lands e)))
@@ -51,8 +54,7 @@ pub record IsVotesRow (conditions : List Cond) (e : Election) (party : ℕ) (row
 
 pub record IsVotesTable (conditions : List Cond) (e : Election) (t : Table) : Type 0 where
   pub key : t.key ≡ codes "votes"
-  pub columns : t.columns ≡ codes "party" ∷ codes "party_name" ∷ codes "valid" ∷ codes "percent" ∷ codes "percent_exact" ∷ codes "counted" ∷ codes "lists"
-      ∷ codes "winners" ∷ codes "condition" ∷ codes "votes_short" ∷ codes "winners_short" ∷ []
+  pub columns : t.columns ≡ listed totals_columns.VOTES
   pub rows : AllZip (IsVotesRow conditions e) (parties e) t.rows
 
 -- ---- Länder
@@ -66,7 +68,7 @@ land_row e land =
 abbrev pub lands_table : Election → Table
 lands_table e = record {
   key = codes "lands";
-  columns = codes "land" ∷ codes "land_name" ∷ codes "people" ∷ codes "valid" ∷ codes "counted" ∷ codes "winners" ∷ codes "independents" ∷ [];
+  columns = listed totals_columns.LANDS;
   rows = map (land_row e) (lands e);
 }
 
@@ -86,7 +88,7 @@ won_rows e land = map (won_row e land) (filter (λ party. nat_lt 0 (won_at e lan
 abbrev pub winners_table : Election → Table
 winners_table e = record {
   key = codes "winners";
-  columns = codes "land" ∷ codes "land_name" ∷ codes "party" ∷ codes "party_name" ∷ codes "winners" ∷ [];
+  columns = listed totals_columns.WINNERS;
   rows = flat_map (won_rows e) (lands e);
 }
 
@@ -99,7 +101,7 @@ warning_row w = a_word (key_of w) (key_of w) ∷ prose ∷ []
 abbrev pub warnings_table : List Warning → Table
 warnings_table warnings = record {
   key = codes "warnings";
-  columns = codes "warning" ∷ codes "text" ∷ [];
+  columns = listed warnings_columns.WARNINGS;
   rows = map warning_row warnings;
 }
 

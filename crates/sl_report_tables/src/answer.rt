@@ -11,6 +11,7 @@ ghost use Rattle.sl_report_tables.specs.Answers.{IsAnswerText, IsRefusal, IsRefu
 
 use sl_base_quotients::NoMemory;
 use sl_count_inputs::Status;
+use sl_explain_texts::Language;
 use sl_report_forms::{
     Heading, Names, Shape, Sheet, Shown, aligned_text, comma_text, html_text, json_text,
     markdown_text, shown_sheets,
@@ -103,17 +104,17 @@ impl Answer {
     }
 
     // What is shown of its sheets.
-    fn shown(&self, alloc: Global) -> Result<Vec<Shown>, NoMemory>
-        ensures { IfOk result (λ v. map view_in v.items ≡ views_in self.now) }
+    fn shown(&self, alloc: Global, language: Language) -> Result<Vec<Shown>, NoMemory>
+        ensures { IfOk result (λ v. map view_in v.items ≡ views_in language self.now) }
     {
-        shown_sheets(alloc, &self.names, self.sheets.as_slice())
+        shown_sheets(alloc, language, &self.names, self.sheets.as_slice())
     }
 
     // The sheets as aligned text, after the line of a legal fault, if there is one, and an empty line.
-    fn aligned(&self, alloc: Global) -> Result<Vec<u8>, NoMemory>
-        ensures { IfOk result (λ text. text.items ≡ below_line self.now.line.items (aligned_of (views_in self.now))) }
+    fn aligned(&self, alloc: Global, language: Language) -> Result<Vec<u8>, NoMemory>
+        ensures { IfOk result (λ text. text.items ≡ below_line self.now.line.items (aligned_of (views_in language self.now))) }
     {
-        let shown = self.shown(alloc)?;
+        let shown = self.shown(alloc, language)?;
         let sheets = aligned_text(alloc, shown.as_slice())?;
         if self.line.is_empty() {
             return Ok(sheets.into_bytes());
@@ -124,19 +125,19 @@ impl Answer {
         Ok(text)
     }
 
-    fn markdown(&self, alloc: Global) -> Result<Vec<u8>, NoMemory>
-        ensures { IfOk result (λ text. OfLine (λ line. text.items ≡ markdown_of line (views_in self.now)) self.now) }
+    fn markdown(&self, alloc: Global, language: Language) -> Result<Vec<u8>, NoMemory>
+        ensures { IfOk result (λ text. OfLine (λ line. text.items ≡ markdown_of line (views_in language self.now)) self.now) }
     {
         let line = without_end(self.line.as_slice());
-        let shown = self.shown(alloc)?;
+        let shown = self.shown(alloc, language)?;
         Ok(markdown_text(alloc, line, shown.as_slice())?.into_bytes())
     }
 
     fn html(&self, alloc: Global, heading: &Heading<'_>) -> Result<Vec<u8>, NoMemory>
-        ensures { IfOk result (λ text. OfLine (λ line. (title : List ℕ) × (text.items ≡ html_page heading.now.language title line (views_in self.now))) self.now) }
+        ensures { IfOk result (λ text. OfLine (λ line. (title : List ℕ) × (text.items ≡ html_page heading.now.language title line (views_in heading.now.language self.now))) self.now) }
     {
         let line = without_end(self.line.as_slice());
-        let shown = self.shown(alloc)?;
+        let shown = self.shown(alloc, heading.language)?;
         Ok(html_text(alloc, heading, line, shown.as_slice())?.into_bytes())
     }
 
@@ -164,8 +165,8 @@ impl Answer {
                 Vec::from_slice(alloc, self.line.as_slice())?,
             ),
             (Shape::Comma, _) => comma_text(alloc, &self.names, self.sheets.as_slice()),
-            (Shape::Text, _) => self.aligned(alloc),
-            (Shape::Markdown, _) => self.markdown(alloc),
+            (Shape::Text, _) => self.aligned(alloc, heading.language),
+            (Shape::Markdown, _) => self.markdown(alloc, heading.language),
             (Shape::Html, _) => self.html(alloc, heading),
         }
     }

@@ -1,6 +1,6 @@
 //! By how many seats the counts of several rulebooks differ from that of the first one.
 
-ghost use Rattle.std.specs.Prelude.{◌≡◌, ◌<◌, ◌++◌, ◌∷◌, [], All, IfOk, IfSome, OnOk, flat_map, map};
+ghost use Rattle.std.specs.Prelude.{◌≡◌, ◌<◌, All, IfOk, IfSome, OnOk, map};
 ghost use Rattle.sl_report_forms.specs.Cells.{content_of};
 ghost use Rattle.sl_report_forms.specs.Tables.{contents_of, table_of, with_rows};
 ghost use Rattle.sl_report_tables.specs.Compare.{change_cell, change_or_fault, change_row, changes_table, compared, seats_row, seats_table};
@@ -9,11 +9,11 @@ ghost use Rattle.sl_law_meaning.specs.returns.Election.{parties_of};
 
 use crate::compare::{COMPARE, Judged, compared_begin, fault_cell, push_heads};
 use crate::naming::owned;
-use crate::rows::{ColumnForm, party as party_of, party_name, titled};
+use crate::rows::{party as party_of, party_name};
 use crate::seated::{Seated, seats_in};
 use crate::texts::{CHANGES_TITLE, EACH_TITLE};
 use sl_base_quotients::NoMemory;
-use sl_report_forms::{ALL, Cell, Look, Names, Sheet};
+use sl_report_forms::{ALL, Cell, ColumnForm, Look, Sheet, Title};
 use sl_stages::Returns;
 use std::alloc::Global;
 
@@ -63,68 +63,30 @@ fn change_or_fault(
     }
 }
 
-// Adds a cell for each book.
-fn put_changes(
-    row: &mut Vec<Cell>,
+// The row of a party, or of all, with a cell for each book.
+fn change_row(
+    alloc: Global,
     returns: &Returns,
     first: &Seated<'_>,
     others: &[Seated<'_>],
     party: Option<usize>,
-) -> Result<(), NoMemory>
+) -> Result<Vec<Cell>, NoMemory>
     requires first { IsSeated returns.now first.now }
     requires others { All (IsSeated returns.now) others.now }
     requires party { IfSome party (λ n. n < parties_of returns.now) }
-    ensures { OnOk result (contents_of row.new.items ≡ contents_of row.old.items ++ map (change_or_fault returns.now party first.now.judged.now.counted) (books_of others.now)) }
+    ensures { IfOk result (λ row. contents_of row.items ≡ change_row returns.now first.now.judged.now (books_of others.now) party) }
 {
+    let mut row = compared_begin(alloc, party)?;
     for book in others {
         row.push(change_or_fault(first, book, returns, party))?;
     }
-    Ok(())
-}
-
-// Adds the row of a party, or of all.
-fn push_change(
-    alloc: Global,
-    sheet: &mut Sheet,
-    returns: &Returns,
-    first: &Seated<'_>,
-    others: &[Seated<'_>],
-    party: Option<usize>,
-) -> Result<(), NoMemory>
-    requires first { IsSeated returns.now first.now }
-    requires others { All (IsSeated returns.now) others.now }
-    requires party { IfSome party (λ n. n < parties_of returns.now) }
-    ensures { OnOk result (table_of sheet.new ≡ with_rows (table_of sheet.old) (change_row returns.now first.now.judged.now (books_of others.now) party ∷ [])) }
-{
-    let mut row = compared_begin(alloc, party)?;
-    put_changes(&mut row, returns, first, others, party)?;
-    sheet.push(row)
-}
-
-// Adds the rows of all together, and of each party.
-fn push_changes(
-    alloc: Global,
-    sheet: &mut Sheet,
-    returns: &Returns,
-    first: &Seated<'_>,
-    others: &[Seated<'_>],
-) -> Result<(), NoMemory>
-    requires first { IsSeated returns.now first.now }
-    requires others { All (IsSeated returns.now) others.now }
-    ensures { OnOk result (table_of sheet.new ≡ with_rows (table_of sheet.old) (map (change_row returns.now first.now.judged.now (books_of others.now)) (compared returns.now))) }
-{
-    push_change(alloc, sheet, returns, first, others, None)?;
-    for party in 0..returns.parties() {
-        push_change(alloc, sheet, returns, first, others, Some(party))?;
-    }
-    Ok(())
+    Ok(row)
 }
 
 /// How many seats more or fewer than the first book the others give: the parties in rows, with a column for each of these books. A single book has no
 /// row, nor have several of which the first has a legal fault.
 pub(crate) fn changes_sheet(
     alloc: Global,
-    names: &Names,
     returns: &Returns,
     books: &[Judged],
     seated: &[Seated<'_>],
@@ -132,35 +94,38 @@ pub(crate) fn changes_sheet(
     requires { AreSeated returns.now books.now seated.now }
     ensures { IfOk result (λ s. table_of s ≡ changes_table returns.now books.now) }
 {
-    let mut sheet = titled(alloc, names, "changes", CHANGES_TITLE, &COMPARE)?;
+    let mut sheet = Sheet::new(alloc, "changes", Title::Words(CHANGES_TITLE), &COMPARE)?;
     if books.len() < 2 {
         return Ok(sheet);
     }
-    push_heads(alloc, &mut sheet, &books[1..])?;
+    push_heads(&mut sheet, &books[1..])?;
     let first = &seated[0];
     if first.judged.counted.is_none() {
         return Ok(sheet);
     }
-    push_changes(alloc, &mut sheet, returns, first, &seated[1..]).and(Ok(sheet))
+    let others = &seated[1..];
+    sheet.push(change_row(alloc, returns, first, others, None)?)?;
+    for party in 0..returns.parties() {
+        sheet.push(change_row(alloc, returns, first, others, Some(party))?)?;
+    }
+    Ok(sheet)
 }
 
-// Adds the row of a book and a party, or of all parties.
-fn push_each(
+// The row of a book and a party, or of all parties.
+fn each_row(
     alloc: Global,
-    sheet: &mut Sheet,
     returns: &Returns,
     first: &Seated<'_>,
     book: &Seated<'_>,
     party: Option<usize>,
-) -> Result<(), NoMemory>
+) -> Result<Vec<Cell>, NoMemory>
     requires first { IsSeated returns.now first.now }
     requires book { IsSeated returns.now book.now }
     requires party { IfSome party (λ n. n < parties_of returns.now) }
-    ensures { OnOk result (table_of sheet.new ≡ with_rows (table_of sheet.old) (seats_row returns.now first.now.judged.now book.now.judged.now party ∷ [])) }
+    ensures { IfOk result (λ row. contents_of row.items ≡ seats_row returns.now first.now.judged.now book.now.judged.now party) }
 {
-    let word = owned(alloc, book.judged.word.as_str())?;
-    sheet.push(vec![in alloc;
-        Cell::Text(word),
+    Ok(vec![in alloc;
+        Cell::Text(owned(alloc, book.judged.word.as_str())?),
         party_of(party),
         party_name(party, ALL),
         Cell::known(seats_in(book, returns, party)),
@@ -180,27 +145,9 @@ fn push_book(
     requires book { IsSeated returns.now book.now }
     ensures { OnOk result (table_of sheet.new ≡ with_rows (table_of sheet.old) (map (seats_row returns.now first.now.judged.now book.now.judged.now) (compared returns.now))) }
 {
-    push_each(alloc, sheet, returns, first, book, None)?;
+    sheet.push(each_row(alloc, returns, first, book, None)?)?;
     for party in 0..returns.parties() {
-        push_each(alloc, sheet, returns, first, book, Some(party))?;
-    }
-    Ok(())
-}
-
-// Adds the rows of each book.
-fn push_books(
-    alloc: Global,
-    sheet: &mut Sheet,
-    returns: &Returns,
-    first: &Seated<'_>,
-    books: &[Seated<'_>],
-) -> Result<(), NoMemory>
-    requires first { IsSeated returns.now first.now }
-    requires books { All (IsSeated returns.now) books.now }
-    ensures { OnOk result (table_of sheet.new ≡ with_rows (table_of sheet.old) (flat_map (λ j. map (seats_row returns.now first.now.judged.now j) (compared returns.now)) (books_of books.now))) }
-{
-    for book in books {
-        push_book(alloc, sheet, returns, first, book)?;
+        sheet.push(each_row(alloc, returns, first, book, Some(party))?)?;
     }
     Ok(())
 }
@@ -208,7 +155,6 @@ fn push_books(
 /// A row for each book and each party: its seats, and their difference from those by the first book.
 pub(crate) fn each_sheet(
     alloc: Global,
-    names: &Names,
     returns: &Returns,
     books: &[Judged],
     seated: &[Seated<'_>],
@@ -216,9 +162,12 @@ pub(crate) fn each_sheet(
     requires { AreSeated returns.now books.now seated.now }
     ensures { IfOk result (λ s. table_of s ≡ seats_table returns.now books.now) }
 {
-    let mut sheet = titled(alloc, names, "seats", EACH_TITLE, &EACH)?;
+    let mut sheet = Sheet::new(alloc, "seats", Title::Words(EACH_TITLE), &EACH)?;
     let Some(first) = seated.first() else {
         return Ok(sheet);
     };
-    push_books(alloc, &mut sheet, returns, first, seated).and(Ok(sheet))
+    for book in seated {
+        push_book(alloc, &mut sheet, returns, first, book)?;
+    }
+    Ok(sheet)
 }

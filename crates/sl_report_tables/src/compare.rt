@@ -1,9 +1,9 @@
 //! The sheets of several rulebooks, side by side.
 
-ghost use Rattle.std.specs.Prelude.{◌≡◌, ◌<◌, ◌++◌, ◌∷◌, [], All, IfOk, IfSome, OnOk, map, string_bytes};
-ghost use Rattle.sl_report_forms.specs.Cells.{Content, content_of};
-ghost use Rattle.sl_report_forms.specs.Tables.{contents_of, table_of, with_columns, with_rows};
-ghost use Rattle.sl_report_tables.specs.Compare.{AreComparison, IsBooksTable, beyond, book_row, compare_table, compared, compared_cell, compared_name, compared_row, fault_cell, seats_of, unseated};
+ghost use Rattle.std.specs.Prelude.{◌≡◌, ◌<◌, All, IfOk, IfSome, OnOk, map, string_bytes};
+ghost use Rattle.sl_report_forms.specs.Cells.{content_of};
+ghost use Rattle.sl_report_forms.specs.Tables.{contents_of, table_of, under, with_heads};
+ghost use Rattle.sl_report_tables.specs.Compare.{AreComparison, IsBooksTable, beyond, book_row, compare_table, compared_cell, compared_name, compared_row, fault_cell, seats_of, unseated};
 ghost use Rattle.sl_report_tables.specs.inner.Seated.{AreSeated, IsSeated, books_of};
 ghost use Rattle.sl_law_meaning.specs.returns.Election.{parties_of};
 
@@ -11,12 +11,12 @@ use crate::changes::{changes_sheet, each_sheet};
 use crate::faults::kind_cell;
 use crate::lists_compared::list_seats_sheet;
 use crate::naming::{owned, text_of};
-use crate::rows::{ColumnForm, add_sheet, party as party_of, party_name, titled};
+use crate::rows::{party as party_of, party_name};
 use crate::seated::{Seated, seated_books, seats_in};
 use crate::stages::stage_number;
 use crate::texts::{COMPARED_TITLE, RULEBOOKS_TITLE};
 use sl_base_quotients::NoMemory;
-use sl_report_forms::{ALL, Cell, Head, Look, Names, Sheet};
+use sl_report_forms::{ALL, Cell, ColumnForm, Look, Sheet, Title};
 use sl_report_parties::{house_of, open_winners, seats_in_all};
 use sl_report_results::{Column, Counted};
 use sl_stages::{Book, CheckedBook, LegalFault, Returns};
@@ -132,21 +132,18 @@ fn unseated(judged: &Judged) -> Option<u64>
     }
 }
 
-// Adds the row of a book, which differs so from the first one.
-fn push_book(
+// The row of a book, which differs so from the first one.
+fn book_row(
     alloc: Global,
-    sheet: &mut Sheet,
     returns: &Returns,
     judged: &Judged,
     difference: Cell,
-) -> Result<(), NoMemory>
-    ensures { OnOk result (table_of sheet.new ≡ with_rows (table_of sheet.old) (book_row returns.now judged.now (content_of difference) ∷ [])) }
+) -> Result<Vec<Cell>, NoMemory>
+    ensures { IfOk result (λ row. contents_of row.items ≡ book_row returns.now judged.now (content_of difference)) }
 {
-    let word = owned(alloc, judged.word.as_str())?;
-    let law = owned(alloc, text_of(judged.book.book.law.as_slice()))?;
-    sheet.push(vec![in alloc;
-        Cell::Text(word),
-        Cell::Text(law),
+    Ok(vec![in alloc;
+        Cell::Text(owned(alloc, judged.word.as_str())?),
+        Cell::Text(owned(alloc, text_of(judged.book.book.law.as_slice()))?),
         Cell::known(seats_of(judged)),
         Cell::known(beyond(judged, returns)),
         Cell::known(unseated(judged)),
@@ -155,24 +152,15 @@ fn push_book(
     ]?)
 }
 
-// The book from which the one of that number may differ: the first one, and none for itself.
-fn first_before(books: &[Judged], number: usize) -> Option<&Judged> {
-    if number == 0 { None } else { books.first() }
-}
-
 // A line for each book.
-fn books_sheet(
-    alloc: Global,
-    names: &Names,
-    returns: &Returns,
-    books: &[Judged],
-) -> Result<Sheet, NoMemory>
+fn books_sheet(alloc: Global, returns: &Returns, books: &[Judged]) -> Result<Sheet, NoMemory>
     ensures { IfOk result (λ s. IsBooksTable returns.now books.now (table_of s)) }
 {
-    let mut sheet = titled(alloc, names, "books", RULEBOOKS_TITLE, &BOOKS)?;
+    let mut sheet = Sheet::new(alloc, "books", Title::Words(RULEBOOKS_TITLE), &BOOKS)?;
     for (number, judged) in books.iter().enumerate() {
-        let difference = difference_cell(alloc, first_before(books, number), judged)?;
-        push_book(alloc, &mut sheet, returns, judged, difference)?;
+        let first = if number == 0 { None } else { books.first() };
+        let difference = difference_cell(alloc, first, judged)?;
+        sheet.push(book_row(alloc, returns, judged, difference)?)?;
     }
     Ok(sheet)
 }
@@ -196,66 +184,30 @@ pub(crate) fn compared_begin(alloc: Global, party: Option<usize>) -> Result<Vec<
     Ok(vec![in alloc; party_of(party), party_name(party, ALL)]?)
 }
 
-// Adds a cell for each book.
-fn put_compared(
-    row: &mut Vec<Cell>,
+// The row of a party, or of all, with a cell for each book.
+fn compared_row(
+    alloc: Global,
     returns: &Returns,
     books: &[Seated<'_>],
     party: Option<usize>,
-) -> Result<(), NoMemory>
+) -> Result<Vec<Cell>, NoMemory>
     requires books { All (IsSeated returns.now) books.now }
     requires party { IfSome party (λ n. n < parties_of returns.now) }
-    ensures { OnOk result (contents_of row.new.items ≡ contents_of row.old.items ++ map (compared_cell returns.now party) (books_of books.now)) }
+    ensures { IfOk result (λ row. contents_of row.items ≡ compared_row returns.now (books_of books.now) party) }
 {
+    let mut row = compared_begin(alloc, party)?;
     for book in books {
         row.push(seats_cell(book, returns, party))?;
     }
-    Ok(())
-}
-
-// Adds the row of a party, or of all.
-fn push_compared(
-    alloc: Global,
-    sheet: &mut Sheet,
-    returns: &Returns,
-    books: &[Seated<'_>],
-    party: Option<usize>,
-) -> Result<(), NoMemory>
-    requires books { All (IsSeated returns.now) books.now }
-    requires party { IfSome party (λ n. n < parties_of returns.now) }
-    ensures { OnOk result (table_of sheet.new ≡ with_rows (table_of sheet.old) (compared_row returns.now (books_of books.now) party ∷ [])) }
-{
-    let mut row = compared_begin(alloc, party)?;
-    put_compared(&mut row, returns, books, party)?;
-    sheet.push(row)
+    Ok(row)
 }
 
 /// Adds a column for each book.
-pub(crate) fn push_heads(alloc: Global, sheet: &mut Sheet, books: &[Judged]) -> Result<(), NoMemory>
-    ensures { OnOk result (table_of sheet.new ≡ with_columns (table_of sheet.old) (map (λ j. string_bytes j.word) books.now)) }
+pub(crate) fn push_heads(sheet: &mut Sheet, books: &[Judged]) -> Result<(), NoMemory>
+    ensures { OnOk result (table_of sheet.new ≡ with_heads (table_of sheet.old) (map (λ j. under (string_bytes j.word)) books.now)) }
 {
     for judged in books {
-        let word = judged.word.as_str();
-        sheet.push_head(Head::new(alloc, word, word, Look::Number)?)?;
-    }
-    Ok(())
-}
-
-// Adds a column for each book, and the rows of all together and of each party.
-fn fill_seats(
-    alloc: Global,
-    sheet: &mut Sheet,
-    returns: &Returns,
-    books: &[Judged],
-    seated: &[Seated<'_>],
-) -> Result<(), NoMemory>
-    requires { AreSeated returns.now books.now seated.now }
-    ensures { OnOk result (table_of sheet.new ≡ with_rows (with_columns (table_of sheet.old) (map (λ j. string_bytes j.word) books.now)) (map (compared_row returns.now books.now) (compared returns.now))) }
-{
-    push_heads(alloc, sheet, books)?;
-    push_compared(alloc, sheet, returns, seated, None)?;
-    for party in 0..returns.parties() {
-        push_compared(alloc, sheet, returns, seated, Some(party))?;
+        sheet.push_word(judged.word.as_str())?;
     }
     Ok(())
 }
@@ -263,7 +215,6 @@ fn fill_seats(
 // The parties in rows, with a column for each book.
 fn seats_sheet(
     alloc: Global,
-    names: &Names,
     returns: &Returns,
     books: &[Judged],
     seated: &[Seated<'_>],
@@ -271,15 +222,19 @@ fn seats_sheet(
     requires { AreSeated returns.now books.now seated.now }
     ensures { IfOk result (λ s. table_of s ≡ compare_table returns.now books.now) }
 {
-    let mut sheet = titled(alloc, names, "compare", COMPARED_TITLE, &COMPARE)?;
-    fill_seats(alloc, &mut sheet, returns, books, seated).and(Ok(sheet))
+    let mut sheet = Sheet::new(alloc, "compare", Title::Words(COMPARED_TITLE), &COMPARE)?;
+    push_heads(&mut sheet, books)?;
+    sheet.push(compared_row(alloc, returns, seated, None)?)?;
+    for party in 0..returns.parties() {
+        sheet.push(compared_row(alloc, returns, seated, Some(party))?)?;
+    }
+    Ok(sheet)
 }
 
 /// The sheets of several books on the returns: a line for each book, the parties in rows with a column for each book, how they differ from the first
 /// book, the lists in rows with a column for each book, and a row for each book and each party.
 pub(crate) fn compare_sheets(
     alloc: Global,
-    names: &Names,
     returns: &Returns,
     books: &[Judged],
 ) -> Result<Vec<Sheet>, NoMemory>
@@ -287,20 +242,11 @@ pub(crate) fn compare_sheets(
 {
     let seated = seated_books(alloc, books, returns)?;
     let seated = seated.as_slice();
-    let mut sheets: Vec<Sheet> = Vec::new(alloc);
-    add_sheet(&mut sheets, books_sheet(alloc, names, returns, books))?;
-    add_sheet(
-        &mut sheets,
-        seats_sheet(alloc, names, returns, books, seated),
-    )?;
-    add_sheet(
-        &mut sheets,
-        changes_sheet(alloc, names, returns, books, seated),
-    )?;
-    add_sheet(&mut sheets, list_seats_sheet(alloc, names, returns, books))?;
-    add_sheet(
-        &mut sheets,
-        each_sheet(alloc, names, returns, books, seated),
-    )?;
-    Ok(sheets)
+    Ok(vec![in alloc;
+        books_sheet(alloc, returns, books)?,
+        seats_sheet(alloc, returns, books, seated)?,
+        changes_sheet(alloc, returns, books, seated)?,
+        list_seats_sheet(alloc, returns, books)?,
+        each_sheet(alloc, returns, books, seated)?,
+    ]?)
 }

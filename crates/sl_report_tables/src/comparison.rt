@@ -9,7 +9,6 @@ use crate::compare::{Judged, compare_sheets};
 use crate::full_names::FullNames;
 use crate::naming::names_of;
 use sl_base_quotients::NoMemory;
-use sl_explain_texts::Language;
 use sl_stages::Returns;
 use std::alloc::Global;
 
@@ -19,11 +18,10 @@ pub fn comparison_answer(
     books: &[Judged],
     returns: &Returns,
     full: &FullNames,
-    language: Language,
 ) -> Result<Answer, NoMemory>
     ensures { IfOk result (HasTables returns.now (AreComparison returns.now books.now)) }
 {
-    let names = names_of(alloc, None, returns, full, language)?;
-    let sheets = compare_sheets(alloc, &names, returns, books)?;
+    let names = names_of(alloc, None, returns, full)?;
+    let sheets = compare_sheets(alloc, returns, books)?;
     Ok(Answer::done(alloc, names, sheets))
 }

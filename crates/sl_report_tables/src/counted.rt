@@ -13,11 +13,11 @@ ghost use Rattle.sl_law_meaning.specs.meaning.Counts.{HoldsStages};
 use crate::covering::covering_sheet;
 use crate::naming::{owned, text_of};
 use crate::parties::{lists_sheet, parties_sheet, placed_sheet};
-use crate::rows::{ColumnForm, add_sheet, one_row_sheet};
+use crate::rows::{add_sheet, one_row_sheet};
 use crate::scopes::{entries_sheet, scopes_sheet};
 use crate::texts::{LAW_TITLE, OPEN_TITLE, SINGLES_TITLE};
 use sl_base_quotients::NoMemory;
-use sl_report_forms::{Cell, Look, Names, Sheet};
+use sl_report_forms::{Cell, ColumnForm, Look, Sheet};
 use sl_report_parties::{Seats, Setting, seats_in_all};
 use sl_report_results::{Counted, Scoped, stage_scopes};
 use sl_stages::{Placed, Returns, Table};
@@ -45,7 +45,6 @@ fn seats_in(table: Option<&Table>) -> Option<Seats>
 pub(crate) fn law_sheet(
     alloc: Global,
     setting: &Setting<'_>,
-    names: &Names,
     table: Option<&Table>,
 ) -> Result<Sheet, NoMemory>
     ensures { IfOk result (λ s. table_of s ≡ law_table setting.now.book.now (house_of setting.now.book.now setting.now.returns.now) (option_map (λ t. t.now) table.entry)) }
@@ -59,7 +58,7 @@ pub(crate) fn law_sheet(
         Cell::known(seats.map(|seats| seats.direct)),
         Cell::known(seats.map(|seats| seats.vacant)),
     ]?;
-    one_row_sheet(alloc, names, "law", LAW_TITLE, &LAW, row)
+    one_row_sheet(alloc, "law", LAW_TITLE, &LAW, row)
 }
 
 /// The scopes of all stages.
@@ -83,14 +82,13 @@ pub(crate) fn all_scopes(
 fn push_scope_sheets(
     alloc: Global,
     sheets: &mut Vec<Sheet>,
-    names: &Names,
     scopes: &[Scoped],
 ) -> Result<(), NoMemory>
     ensures { OnOk result (map table_of sheets.new.items ≡ map table_of sheets.old.items ++ scope_tables scopes.now) }
 {
-    add_sheet(sheets, scopes_sheet(alloc, names, scopes))?;
+    add_sheet(sheets, scopes_sheet(alloc, scopes))?;
     for scoped in scopes {
-        add_sheet(sheets, entries_sheet(alloc, names, scoped))?;
+        add_sheet(sheets, entries_sheet(alloc, scoped))?;
     }
     Ok(())
 }
@@ -100,7 +98,6 @@ pub(crate) fn push_places(
     alloc: Global,
     sheets: &mut Vec<Sheet>,
     returns: &Returns,
-    names: &Names,
     table: &Table,
 ) -> Result<(), NoMemory>
     ensures { OnOk result (map table_of sheets.new.items ≡ map table_of sheets.old.items ++ place_tables returns.now table.now) }
@@ -108,22 +105,13 @@ pub(crate) fn push_places(
     let singles = placed_sheet(
         alloc,
         returns,
-        names,
         table,
         "singles",
         SINGLES_TITLE,
         Placed::Single,
     );
     add_sheet(sheets, singles)?;
-    let open = placed_sheet(
-        alloc,
-        returns,
-        names,
-        table,
-        "open",
-        OPEN_TITLE,
-        Placed::Unseated,
-    );
+    let open = placed_sheet(alloc, returns, table, "open", OPEN_TITLE, Placed::Unseated);
     add_sheet(sheets, open)?;
     Ok(())
 }
@@ -133,15 +121,14 @@ fn push_winner_sheets(
     alloc: Global,
     sheets: &mut Vec<Sheet>,
     setting: &Setting<'_>,
-    names: &Names,
     table: &Table,
 ) -> Result<(), NoMemory>
     ensures { OnOk result ((ranked : List Ranked)
         × AreCovered setting.now.book.now.last.seating setting.now.book.now.eligible.items table.now setting.now.returns.now ranked
         × (map table_of sheets.new.items ≡ map table_of sheets.old.items ++ winner_tables setting.now.returns.now table.now ranked)) }
 {
-    add_sheet(sheets, covering_sheet(alloc, setting, names, table))?;
-    push_places(alloc, sheets, setting.returns, names, table)?;
+    add_sheet(sheets, covering_sheet(alloc, setting, table))?;
+    push_places(alloc, sheets, setting.returns, table)?;
     Ok(())
 }
 
@@ -149,14 +136,13 @@ fn push_winner_sheets(
 pub(crate) fn first_sheets(
     alloc: Global,
     setting: &Setting<'_>,
-    names: &Names,
     table: Option<&Table>,
 ) -> Result<Vec<Sheet>, NoMemory>
     ensures { IfOk result (λ sheets. map table_of sheets.items ≡ first_tables setting.now.book.now setting.now.returns.now (option_map (λ t. t.now) table.entry)) }
 {
     let mut sheets: Vec<Sheet> = Vec::new(alloc);
-    add_sheet(&mut sheets, law_sheet(alloc, setting, names, table))?;
-    add_sheet(&mut sheets, parties_sheet(alloc, setting, names, table))?;
+    add_sheet(&mut sheets, law_sheet(alloc, setting, table))?;
+    add_sheet(&mut sheets, parties_sheet(alloc, setting, table))?;
     Ok(sheets)
 }
 
@@ -165,20 +151,19 @@ pub(crate) fn first_sheets(
 pub(crate) fn report_sheets(
     alloc: Global,
     setting: &Setting<'_>,
-    names: &Names,
     counted: &Counted,
 ) -> Result<Vec<Sheet>, NoMemory>
     requires { HoldsStages (book_of setting.now.book.now) setting.now.returns.now counted.now.columns.items }
     ensures { IfOk result (λ sheets. IsCountReport setting.now.book.now setting.now.returns.now counted.now (map table_of sheets.items)) }
 {
     let table = &counted.table;
-    let mut sheets = first_sheets(alloc, setting, names, Some(table))?;
+    let mut sheets = first_sheets(alloc, setting, Some(table))?;
     add_sheet(
         &mut sheets,
-        lists_sheet(alloc, setting.returns, names, table, false),
+        lists_sheet(alloc, setting.returns, table, false),
     )?;
     let scopes = all_scopes(alloc, setting, counted)?;
-    push_scope_sheets(alloc, &mut sheets, names, scopes.as_slice())?;
-    push_winner_sheets(alloc, &mut sheets, setting, names, table)?;
+    push_scope_sheets(alloc, &mut sheets, scopes.as_slice())?;
+    push_winner_sheets(alloc, &mut sheets, setting, table)?;
     Ok(sheets)
 }

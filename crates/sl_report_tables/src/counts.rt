@@ -18,7 +18,7 @@ use crate::steps::{seat_sheets, step_sheets};
 use sl_base_quotients::NoMemory;
 use sl_count_inputs::Status;
 use sl_explain_texts::Language;
-use sl_report_forms::{Names, Sheet};
+use sl_report_forms::Sheet;
 use sl_report_parties::{EarlierParty, Setting, parts_of};
 use sl_stages::{CheckedBook, End, LegalFault, Returns};
 use std::alloc::Global;
@@ -57,13 +57,13 @@ impl Show<'_> {
 fn sheets_of_fault(
     alloc: Global,
     setting: &Setting<'_>,
-    names: &Names,
     fault: &LegalFault,
+    language: Language,
 ) -> Result<Vec<Sheet>, NoMemory>
     ensures { IfOk result (λ sheets. IsFaultReport setting.now.book.now setting.now.returns.now fault.now (map table_of sheets.items)) }
 {
-    let mut sheets = fault_sheets(alloc, setting.book, setting.returns, names, fault)?;
-    let mut first = first_sheets(alloc, setting, names, None)?;
+    let mut sheets = fault_sheets(alloc, setting.book, setting.returns, fault, language)?;
+    let mut first = first_sheets(alloc, setting, None)?;
     sheets.append(&mut first)?;
     Ok(sheets)
 }
@@ -73,26 +73,22 @@ fn sheets_of(
     alloc: Global,
     show: Show<'_>,
     setting: &Setting<'_>,
-    names: &Names,
     full: &FullNames,
     end: &End,
+    language: Language,
 ) -> Result<Vec<Sheet>, NoMemory>
     requires { HoldsEnd (book_of setting.now.book.now) setting.now.returns.now end.now }
     ensures { IfOk result (λ sheets. Shows setting.now.book.now setting.now.returns.now show.entry end.now (map table_of sheets.items)) }
 {
     match (show, end) {
-        (Show::Seats, End::Counted(counted)) => {
-            seat_sheets(alloc, setting, names, &counted.table)
-        }
-        (Show::Steps, End::Counted(counted)) => {
-            step_sheets(alloc, setting, names, &counted.table)
-        }
-        (Show::Report, End::Counted(counted)) => report_sheets(alloc, setting, names, counted),
+        (Show::Seats, End::Counted(counted)) => { seat_sheets(alloc, setting, &counted.table) }
+        (Show::Steps, End::Counted(counted)) => { step_sheets(alloc, setting, &counted.table) }
+        (Show::Report, End::Counted(counted)) => report_sheets(alloc, setting, counted),
         (Show::Short(earlier), End::Counted(counted)) => {
-            press_sheets(alloc, setting, names, full, counted, earlier)
+            press_sheets(alloc, setting, full, counted, earlier)
         }
-        (Show::Stages, End::Counted(counted)) => stage_sheets(alloc, setting, names, counted),
-        (_, End::Fault(fault)) => sheets_of_fault(alloc, setting, names, fault),
+        (Show::Stages, End::Counted(counted)) => stage_sheets(alloc, setting, counted),
+        (_, End::Fault(fault)) => sheets_of_fault(alloc, setting, fault, language),
     }
 }
 
@@ -123,10 +119,10 @@ pub fn count_answer(
     ensures names { IfOk result (λ a. AreNames book.now.book.stages.items returns.now a.names) }
     ensures shows { IfOk result (λ a. Shows book.now.book returns.now show.entry end.now (map table_of a.sheets.items)) }
 {
-    let names = names_of(alloc, Some(&book.book), returns, full, language)?;
+    let names = names_of(alloc, Some(&book.book), returns, full)?;
     let parts = parts_of(alloc, book.book.eligible.as_slice(), returns)?;
     let setting = Setting::new(&book.book, returns, parts);
-    let sheets = sheets_of(alloc, show, &setting, &names, full, end)?;
+    let sheets = sheets_of(alloc, show, &setting, full, end, language)?;
     Ok(Answer {
         status: status_of(end),
         line,

@@ -1,30 +1,26 @@
 //! The sheet of contested lists: their winners by rank.
 
 ghost use Rattle.std.specs.Prelude.{◌≡◌, ◌∷◌, [], IfOk, List, OnOk};
-ghost use Rattle.sl_report_forms.specs.Tables.{table_of, with_rows};
+ghost use Rattle.sl_report_forms.specs.Tables.{contents_of, table_of};
 ghost use Rattle.sl_report_parties.specs.declared.contests.Ranked.{Ranked};
 ghost use Rattle.sl_report_tables.specs.Parties.{AreCovered, covering_table, ranked_row};
 
-use crate::rows::{ColumnForm, name, percent, percent_exact, titled};
+use crate::rows::{name, percent, percent_exact};
 use crate::texts::COVERED_TITLE;
 use sl_base_quotients::NoMemory;
-use sl_report_forms::{Cell, Look, Names, Sheet};
+use sl_report_forms::{Cell, ColumnForm, Look, Sheet, Title};
 use sl_report_parties::{Ranked, Setting, contested};
 use sl_stages::{Item, Seating, Table};
 use std::alloc::Global;
 
+#[rattlefmt::skip]
 const COVERING: [ColumnForm; 12] = [
     ("land", "", "", Look::Hidden),
     ("land_name", "Land", "Land", Look::Text(20)),
     ("party", "", "", Look::Hidden),
     ("party_name", "party", "Partei", Look::Text(14)),
     ("constituency", "", "", Look::Hidden),
-    (
-        "constituency_name",
-        "constituency",
-        "Wahlkreis",
-        Look::Text(22),
-    ),
+    ("constituency_name", "constituency", "Wahlkreis", Look::Text(22)),
     ("first", "first", "Erststimmen", Look::Number),
     ("valid", "valid", "gültig", Look::Number),
     ("percent", "percent", "Prozent", Look::Number),
@@ -33,13 +29,13 @@ const COVERING: [ColumnForm; 12] = [
     ("seated", "seated", "Sitz", Look::Text(6)),
 ];
 
-// Adds the row of a winner.
-fn push_winner(alloc: Global, sheet: &mut Sheet, winner: Ranked) -> Result<(), NoMemory>
-    ensures { OnOk result (table_of sheet.new ≡ with_rows (table_of sheet.old) (ranked_row winner ∷ [])) }
+// The row of a winner.
+fn winner_row(alloc: Global, winner: Ranked) -> Result<Vec<Cell>, NoMemory>
+    ensures { IfOk result (λ row. contents_of row.items ≡ ranked_row winner) }
 {
     let first = u64::from(winner.first);
     let valid = u64::from(winner.valid);
-    sheet.push(vec![in alloc;
+    Ok(vec![in alloc;
         Cell::Entry(Item::Land(winner.land)),
         name(Item::Land(winner.land)),
         Cell::Entry(Item::Party(winner.party)),
@@ -67,12 +63,12 @@ fn covered(alloc: Global, setting: &Setting<'_>, table: &Table) -> Result<Vec<Ra
 
 // The sheet of these winners.
 #[tactic(auto, using(crate::proofs::MoreRows::rows_next))]
-fn ranked_sheet(alloc: Global, names: &Names, winners: &[Ranked]) -> Result<Sheet, NoMemory>
+fn ranked_sheet(alloc: Global, winners: &[Ranked]) -> Result<Sheet, NoMemory>
     ensures { IfOk result (λ s. table_of s ≡ covering_table winners.now) }
 {
-    let mut sheet = titled(alloc, names, "covering", COVERED_TITLE, &COVERING)?;
+    let mut sheet = Sheet::new(alloc, "covering", Title::Words(COVERED_TITLE), &COVERING)?;
     for winner in winners {
-        push_winner(alloc, &mut sheet, *winner)?;
+        sheet.push(winner_row(alloc, *winner)?)?;
     }
     Ok(sheet)
 }
@@ -81,11 +77,10 @@ fn ranked_sheet(alloc: Global, names: &Names, winners: &[Ranked]) -> Result<Shee
 pub(crate) fn covering_sheet(
     alloc: Global,
     setting: &Setting<'_>,
-    names: &Names,
     table: &Table,
 ) -> Result<Sheet, NoMemory>
     ensures { IfOk result (λ s. (ws : List Ranked) × AreCovered setting.now.book.now.last.seating setting.now.book.now.eligible.items table.now setting.now.returns.now ws × (table_of s ≡ covering_table ws)) }
 {
     let winners = covered(alloc, setting, table)?;
-    ranked_sheet(alloc, names, winners.as_slice())
+    ranked_sheet(alloc, winners.as_slice())
 }

@@ -1,21 +1,21 @@
 //! The sheets of a legal fault: where it is, what happened, and what to do.
 
-ghost use Rattle.std.specs.Prelude.{◌≡◌, ◌∷◌, [], IfOk, OnOk, Some, map};
+ghost use Rattle.std.specs.Prelude.{◌≡◌, ◌∷◌, [], IfOk, Some, map};
 ghost use Rattle.sl_report_forms.specs.Cells.{content_of, prose};
-ghost use Rattle.sl_report_forms.specs.Tables.{table_of, with_rows};
+ghost use Rattle.sl_report_forms.specs.Tables.{contents_of, table_of};
 ghost use Rattle.sl_report_tables.specs.Faults.{AreFaultTables, IsExplanation, code_cell, fault_table, kind_cell, tied, tied_seats};
 ghost use Rattle.sl_explain_faults.specs.Codes.{legal_code};
 
 use crate::naming::{owned, text_of};
-use crate::rows::{ColumnForm, add_sheet, keyword, one_row_sheet, titled};
+use crate::rows::{add_sheet, keyword, one_row_sheet};
 use crate::texts::{
     EXPLANATION_TITLE, FAULT_TITLE, KIND_CAP, KIND_LIMIT, KIND_MAJORITY, KIND_NO_LIST, KIND_SHORT,
     KIND_TIE,
 };
 use sl_base_quotients::NoMemory;
 use sl_explain_faults::explain_legal;
-use sl_explain_texts::{Explanation, FaultCode};
-use sl_report_forms::{Cell, Look, Names, Sheet};
+use sl_explain_texts::{Explanation, FaultCode, Language};
+use sl_report_forms::{Cell, ColumnForm, Look, Sheet, Title};
 use sl_stages::{Book, FaultKind, LegalFault, Returns};
 use std::alloc::Global;
 
@@ -29,12 +29,10 @@ const FAULT: [ColumnForm; 7] = [
     ("names", "names", "Namen", Look::Text(36)),
 ];
 
-const EXPLANATION: [ColumnForm; 1] = [(
-    "text",
-    "what happened, and what to do",
-    "was geschah, und was zu tun ist",
-    Look::Text(240),
-)];
+#[rattlefmt::skip]
+const EXPLANATION: [ColumnForm; 1] = [
+    ("text", "what happened, and what to do", "was geschah, und was zu tun ist", Look::Text(240)),
+];
 
 /// The word of a kind of faults.
 pub(crate) fn kind_cell(kind: &FaultKind) -> Cell
@@ -80,12 +78,7 @@ fn code_cell(told: &Explanation) -> Cell
 }
 
 // The sheet of a legal fault, with the code of its explanation.
-fn fault_sheet(
-    alloc: Global,
-    names: &Names,
-    fault: &LegalFault,
-    told: &Explanation,
-) -> Result<Sheet, NoMemory>
+fn fault_sheet(alloc: Global, fault: &LegalFault, told: &Explanation) -> Result<Sheet, NoMemory>
     requires { told.now.code ≡ Some (legal_code fault.now) }
     ensures { IfOk result (λ s. table_of s ≡ fault_table fault.now) }
 {
@@ -99,7 +92,7 @@ fn fault_sheet(
         tied_seats(&fault.kind),
         tied,
     ]?;
-    one_row_sheet(alloc, names, "fault", FAULT_TITLE, &FAULT, row)
+    one_row_sheet(alloc, "fault", FAULT_TITLE, &FAULT, row)
 }
 
 // The names of a rulebook's stages, in order.
@@ -111,22 +104,27 @@ fn stages_of(alloc: Global, book: &Book) -> Result<Vec<&[u8]>, NoMemory> {
     Ok(names)
 }
 
-// Adds a line for a text.
-fn push_text(alloc: Global, sheet: &mut Sheet, text: &[u8]) -> Result<(), NoMemory>
-    ensures { OnOk result (table_of sheet.new ≡ with_rows (table_of sheet.old) ((prose ∷ []) ∷ [])) }
+// A line for a text.
+fn text_row(alloc: Global, text: &[u8]) -> Result<Vec<Cell>, NoMemory>
+    ensures { IfOk result (λ row. contents_of row.items ≡ (prose ∷ [])) }
 {
     let text = owned(alloc, text_of(text))?;
-    sheet.push(vec![in alloc; Cell::Prose(text)]?)
+    Ok(vec![in alloc; Cell::Prose(text)]?)
 }
 
 // The sheet of an explanation, a line for each sentence.
-fn explanation_sheet(alloc: Global, names: &Names, told: &Explanation) -> Result<Sheet, NoMemory>
+fn explanation_sheet(alloc: Global, told: &Explanation) -> Result<Sheet, NoMemory>
     ensures { IfOk result (λ s. IsExplanation (table_of s)) }
 {
-    let mut sheet = titled(alloc, names, "explanation", EXPLANATION_TITLE, &EXPLANATION)?;
-    push_text(alloc, &mut sheet, told.sentence())?;
+    let mut sheet = Sheet::new(
+        alloc,
+        "explanation",
+        Title::Words(EXPLANATION_TITLE),
+        &EXPLANATION,
+    )?;
+    sheet.push(text_row(alloc, told.sentence())?)?;
     for remedy in told.remedies() {
-        push_text(alloc, &mut sheet, remedy.text())?;
+        sheet.push(text_row(alloc, remedy.text())?)?;
     }
     Ok(sheet)
 }
@@ -136,15 +134,15 @@ pub(crate) fn fault_sheets(
     alloc: Global,
     book: &Book,
     returns: &Returns,
-    names: &Names,
     fault: &LegalFault,
+    language: Language,
 ) -> Result<Vec<Sheet>, NoMemory>
     ensures { IfOk result (λ sheets. AreFaultTables fault.now (map table_of sheets.items)) }
 {
     let stages = stages_of(alloc, book)?;
-    let told = explain_legal(alloc, names.language, stages.as_slice(), returns, fault)?;
+    let told = explain_legal(alloc, language, stages.as_slice(), returns, fault)?;
     let mut sheets: Vec<Sheet> = Vec::new(alloc);
-    add_sheet(&mut sheets, fault_sheet(alloc, names, fault, &told))?;
-    add_sheet(&mut sheets, explanation_sheet(alloc, names, &told))?;
+    add_sheet(&mut sheets, fault_sheet(alloc, fault, &told))?;
+    add_sheet(&mut sheets, explanation_sheet(alloc, &told))?;
     Ok(sheets)
 }

@@ -1,6 +1,6 @@
 //! A rulebook beside the lines of its table in one Land.
 
-ghost use Rattle.std.specs.Prelude.{◌≡◌, IfOk, filter, nat_eq};
+ghost use Rattle.std.specs.Prelude.{◌≡◌, IfOk};
 ghost use Rattle.sl_report_tables.specs.inner.Local.{lines_in};
 
 use crate::compare::Judged;
@@ -17,14 +17,6 @@ pub(crate) struct Local<'a> {
     pub(crate) ghost kept: { lines.items ≡ lines_in land judged.now.counted },
 }
 
-// Those of some lines that are of a Land.
-fn lines_of(alloc: Global, lines: &[ListSeats], land: usize) -> Result<Vec<ListSeats>, NoMemory>
-    ensures { IfOk result (λ found. found.items ≡ filter (λ l. nat_eq l.land land) lines.now) }
-{
-    let of_land = lines.iter().copied().filter(|line| line.land == land);
-    Ok(of_land.collect(alloc)?)
-}
-
 /// The lines of a Land by a book, if there is a count.
 pub(crate) fn lines_in(
     alloc: Global,
@@ -33,8 +25,9 @@ pub(crate) fn lines_in(
 ) -> Result<Vec<ListSeats>, NoMemory>
     ensures { IfOk result (λ found. found.items ≡ lines_in land judged.now.counted) }
 {
-    match &judged.counted {
-        Some(counted) => lines_of(alloc, counted.table.lists(), land),
-        None => Ok(Vec::new(alloc)),
-    }
+    let Some(counted) = &judged.counted else {
+        return Ok(Vec::new(alloc));
+    };
+    let lines = counted.table.lists().iter().copied();
+    Ok(lines.filter(|line| line.land == land).collect(alloc)?)
 }

@@ -5,7 +5,6 @@ ghost use Rattle.sl_report_tables.specs.Naming.{AreNames, short_name, stage_name
 
 use crate::full_names::FullNames;
 use sl_base_quotients::NoMemory;
-use sl_explain_texts::Language;
 use sl_report_forms::{Name, Names};
 use sl_stages::{Book, Returns, Stage};
 use std::alloc::Global;
@@ -95,12 +94,10 @@ pub(crate) fn names_of(
     book: Option<&Book>,
     returns: &Returns,
     full: &FullNames,
-    language: Language,
 ) -> Result<Names, NoMemory>
     ensures { IfOk result (AreNames (stages_in (option_map (λ b. b.now) book.entry)) returns.now) }
 {
     Ok(Names {
-        language,
         are_full: !full.is_empty(),
         lands: land_names(alloc, returns, full)?,
         parties: party_names(alloc, returns, full)?,

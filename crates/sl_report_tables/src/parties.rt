@@ -1,22 +1,23 @@
 //! The sheets of parties and of lists, and of the winners who sit by themselves or not at all.
 
 ghost use Rattle.std.specs.Prelude.{◌≡◌, ◌<◌, ◌∷◌, [], IfOk, OnOk, Some, if◌then◌else◌, length, option_map, slice_get};
-ghost use Rattle.sl_report_forms.specs.Tables.{table_of, with_rows};
+ghost use Rattle.sl_report_forms.specs.Tables.{contents_of, table_of, with_rows};
 ghost use Rattle.sl_report_parties.specs.Seats.{party_seats};
 ghost use Rattle.sl_report_tables.specs.Parties.{has_place, is_shown_list, list_row, lists_table, parties_table, party_row, placed_table, winner_row};
 ghost use Rattle.sl_report_tables.specs.inner.SeatsBy.{seats_by};
 ghost use Rattle.sl_law_meaning.specs.returns.Election.{lands_of, parties_of};
 ghost use Rattle.sl_law_meaning.specs.returns.Facts.{all_valid_votes};
 
-use crate::rows::{ColumnForm, condition, name, party, party_name, percent, percent_exact, titled};
+use crate::rows::{condition, name, party, party_name, percent, percent_exact};
 use crate::texts::{LISTS_TITLE, NO_PARTY, PARTIES_TITLE};
 use sl_base_quotients::NoMemory;
 use sl_explain_texts::Message;
-use sl_report_forms::{Cell, Look, Names, Sheet};
+use sl_report_forms::{Cell, ColumnForm, Look, Sheet, Title};
 use sl_report_parties::{Seats, Setting, all_votes, seats_by_party};
 use sl_stages::{Item, ListSeats, Placed, Returns, Table, Win};
 use std::alloc::Global;
 
+#[rattlefmt::skip]
 const PARTIES: [ColumnForm; 10] = [
     ("party", "", "", Look::Hidden),
     ("party_name", "party", "Partei", Look::Text(24)),
@@ -24,12 +25,7 @@ const PARTIES: [ColumnForm; 10] = [
     ("percent", "percent", "Prozent", Look::Number),
     ("percent_exact", "", "", Look::Hidden),
     ("counted", "counted", "zählend", Look::Number),
-    (
-        "condition",
-        "takes part by",
-        "nimmt teil durch",
-        Look::Text(14),
-    ),
+    ("condition", "takes part by", "nimmt teil durch", Look::Text(14)),
     ("seats", "seats", "Sitze", Look::Number),
     ("direct", "direct", "direkt", Look::Number),
     ("vacant", "vacant", "unbesetzt", Look::Number),
@@ -47,14 +43,10 @@ const LISTS: [ColumnForm; 9] = [
     ("vacant", "vacant", "unbesetzt", Look::Number),
 ];
 
+#[rattlefmt::skip]
 const WINNERS: [ColumnForm; 6] = [
     ("constituency", "", "", Look::Hidden),
-    (
-        "constituency_name",
-        "constituency",
-        "Wahlkreis",
-        Look::Text(40),
-    ),
+    ("constituency_name", "constituency", "Wahlkreis", Look::Text(40)),
     ("land", "", "", Look::Hidden),
     ("land_name", "Land", "Land", Look::Text(26)),
     ("party", "", "", Look::Hidden),
@@ -85,26 +77,24 @@ fn party_seats(
     seats.get(party).copied()
 }
 
-// Adds the row of a party, of so many valid votes in all.
-fn push_party(
+// The row of a party, of so many valid votes in all.
+fn party_row(
     alloc: Global,
-    sheet: &mut Sheet,
     setting: &Setting<'_>,
     table: Option<&Table>,
     seats: &[Seats],
     valid: u64,
     party: usize,
-) -> Result<(), NoMemory>
+) -> Result<Vec<Cell>, NoMemory>
     requires seats { seats.now ≡ seats_by setting.now.returns.now (option_map (λ t. t.now) table) }
     requires party { party < parties_of setting.now.returns.now }
     requires valid { valid ≡ all_valid_votes setting.now.returns.now }
-    ensures { OnOk result (table_of sheet.new ≡ with_rows (table_of sheet.old)
-        (party_row setting.now.book.now.eligible.items setting.now.returns.now (option_map (λ t. t.now) table.entry) party ∷ [])) }
+    ensures { IfOk result (λ row. contents_of row.items ≡ party_row setting.now.book.now.eligible.items setting.now.returns.now (option_map (λ t. t.now) table.entry) party) }
 {
     let part = setting.part(party);
     let seats = party_seats(table, setting.returns, seats, party);
     let met = condition(setting.book.eligible.as_slice(), part.met);
-    sheet.push(vec![in alloc;
+    Ok(vec![in alloc;
         Cell::Entry(Item::Party(party)),
         name(Item::Party(party)),
         Cell::Number(part.votes.valid),
@@ -122,35 +112,29 @@ fn push_party(
 pub(crate) fn parties_sheet(
     alloc: Global,
     setting: &Setting<'_>,
-    names: &Names,
     table: Option<&Table>,
 ) -> Result<Sheet, NoMemory>
     ensures { IfOk result (λ s. table_of s ≡ parties_table setting.now.book.now.eligible.items setting.now.returns.now (option_map (λ t. t.now) table.entry)) }
 {
-    let mut sheet = titled(alloc, names, "parties", PARTIES_TITLE, &PARTIES)?;
+    let mut sheet = Sheet::new(alloc, "parties", Title::Words(PARTIES_TITLE), &PARTIES)?;
     let valid = all_votes(setting.returns).valid;
     let seats = seats_by(alloc, table, setting.returns)?;
     let seats = seats.as_slice();
     for party in 0..setting.returns.parties() {
-        push_party(alloc, &mut sheet, setting, table, seats, valid, party)?;
+        sheet.push(party_row(alloc, setting, table, seats, valid, party)?)?;
     }
     Ok(sheet)
 }
 
-// Adds the row of a list of the returns.
-fn push_list_row(
-    alloc: Global,
-    sheet: &mut Sheet,
-    returns: &Returns,
-    list: ListSeats,
-) -> Result<(), NoMemory>
+// The row of a list of the returns.
+fn list_row(alloc: Global, returns: &Returns, list: ListSeats) -> Result<Vec<Cell>, NoMemory>
     requires land { list.land < lands_of returns.now }
     requires party { list.party < parties_of returns.now }
-    ensures { OnOk result (table_of sheet.new ≡ with_rows (table_of sheet.old) (list_row returns.now list ∷ [])) }
+    ensures { IfOk result (λ row. contents_of row.items ≡ list_row returns.now list) }
 {
     let valid = u64::from(returns.valid(list.land, list.party));
     let counted = u64::from(returns.counted(list.land, list.party));
-    sheet.push(vec![in alloc;
+    Ok(vec![in alloc;
         Cell::Entry(Item::Land(list.land)),
         name(Item::Land(list.land)),
         Cell::Entry(Item::Party(list.party)),
@@ -161,6 +145,19 @@ fn push_list_row(
         Cell::Number(list.direct),
         Cell::Number(list.vacant),
     ]?)
+}
+
+// Adds the row of a list of the returns.
+fn push_list_row(
+    alloc: Global,
+    sheet: &mut Sheet,
+    returns: &Returns,
+    list: ListSeats,
+) -> Result<(), NoMemory>
+    requires { list.land < lands_of returns.now × list.party < parties_of returns.now }
+    ensures { OnOk result (table_of sheet.new ≡ with_rows (table_of sheet.old) (list_row returns.now list ∷ [])) }
+{
+    sheet.push(list_row(alloc, returns, list)?)
 }
 
 // Adds the row of a list of the returns: of any, or if it has votes or seats.
@@ -186,13 +183,12 @@ fn push_list(
 pub(crate) fn lists_sheet(
     alloc: Global,
     returns: &Returns,
-    names: &Names,
     table: &Table,
     any: bool,
 ) -> Result<Sheet, NoMemory>
     ensures { IfOk result (λ s. table_of s ≡ lists_table any returns.now table.now) }
 {
-    let mut sheet = titled(alloc, names, "lists", LISTS_TITLE, &LISTS)?;
+    let mut sheet = Sheet::new(alloc, "lists", Title::Words(LISTS_TITLE), &LISTS)?;
     for list in table.lists() {
         push_list(alloc, &mut sheet, returns, *list, any)?;
     }
@@ -247,7 +243,6 @@ fn place_at(placed: &[Placed], number: usize) -> Placed
 pub(crate) fn placed_sheet(
     alloc: Global,
     returns: &Returns,
-    names: &Names,
     table: &Table,
     key: &'static str,
     title: Message,
@@ -255,7 +250,7 @@ pub(crate) fn placed_sheet(
 ) -> Result<Sheet, NoMemory>
     ensures { IfOk result (λ s. table_of s ≡ placed_table key.now (has_place wanted) returns.now table.now) }
 {
-    let mut sheet = titled(alloc, names, key, title, &WINNERS)?;
+    let mut sheet = Sheet::new(alloc, key, Title::Words(title), &WINNERS)?;
     let placed = table.placed();
     for number in 0..returns.wins().min(placed.len()) {
         let win = returns.win(number);

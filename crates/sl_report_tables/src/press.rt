@@ -2,15 +2,15 @@
 //! out lacks.
 
 ghost use Rattle.std.specs.List.{AllZip};
-ghost use Rattle.std.specs.Prelude.{◌≡◌, ◌∷◌, [], IfOk, List, OnOk, filter, if◌then◌else◌, map, option_map, take};
+ghost use Rattle.std.specs.Prelude.{◌≡◌, IfOk, List, OnOk, filter, map, option_map, take};
 ghost use Rattle.sl_report_forms.specs.Cells.{Content, content_of};
-ghost use Rattle.sl_report_forms.specs.Tables.{table_of, with_rows};
+ghost use Rattle.sl_report_forms.specs.Tables.{contents_of, table_of, with_rows};
 ghost use Rattle.sl_report_parties.specs.Earlier.{all_before};
 ghost use Rattle.sl_report_parties.specs.Press.{ArePressed};
 ghost use Rattle.sl_report_parties.specs.declared.press.Pressed.{Pressed};
 ghost use Rattle.sl_report_tables.specs.Press.{IsLackingRow, IsLackingTable, change_since, gone_row, gone_rows, is_whole, press_row, press_table, sum_row};
 ghost use Rattle.sl_report_tables.specs.Reports.{IsPressReport};
-ghost use Rattle.sl_report_tables.specs.Scopes.{scope_row, scopes_table};
+ghost use Rattle.sl_report_tables.specs.Scopes.{scopes_table};
 ghost use Rattle.sl_law_meaning.specs.book.Books.{book_of};
 ghost use Rattle.sl_law_meaning.specs.meaning.Counts.{HoldsStages};
 ghost use Rattle.sl_law_meaning.specs.returns.Facts.{all_valid_votes};
@@ -18,19 +18,20 @@ ghost use Rattle.sl_law_meaning.specs.returns.Facts.{all_valid_votes};
 use crate::counted::{all_scopes, law_sheet};
 use crate::full_names::FullNames;
 use crate::naming::owned;
-use crate::rows::{ColumnForm, add_sheet, name, rounded, titled};
-use crate::scopes::{SCOPES, push_scope};
+use crate::rows::{add_sheet, name, rounded};
+use crate::scopes::{SCOPES, scope_row};
 use crate::texts::{LAST_SEATS_TITLE, LEFT_OUT_TITLE, PRESS_TITLE};
 use sl_base_quotients::NoMemory;
-use sl_report_forms::{ALL, Cell, Look, Names, Sheet};
+use sl_report_forms::{ALL, Cell, ColumnForm, Look, Sheet, Title};
 use sl_report_parties::{
     EarlierParty, Pressed, Setting, Standing, all_before, all_votes, by_seats, gone, lacking_votes,
     lacking_winners, left_out, seats_in_all,
 };
 use sl_report_results::{Counted, Scoped};
-use sl_stages::{Cond, Item, Returns, Scope, Table};
+use sl_stages::{Item, Returns, Scope, Table};
 use std::alloc::Global;
 
+// With full names each party stands by both, and else by its name alone.
 const PRESS: [ColumnForm; 9] = [
     ("party", "party", "Partei", Look::Text(12)),
     ("party_name", "name", "Name", Look::Text(30)),
@@ -43,18 +44,36 @@ const PRESS: [ColumnForm; 9] = [
     ("percent", "percent", "Prozent", Look::Number),
 ];
 
+const PRESS_SHORT: [ColumnForm; 9] = [
+    ("party", "", "", Look::Hidden),
+    ("party_name", "party", "Partei", Look::Text(30)),
+    ("seats", "seats", "Sitze", Look::Number),
+    ("before", "before", "zuvor", Look::Number),
+    ("change", "change", "Änderung", Look::Number),
+    ("won", "won", "gewonnen", Look::Number),
+    ("direct", "seated", "mit Sitz", Look::Number),
+    ("valid", "votes", "Stimmen", Look::Number),
+    ("percent", "percent", "Prozent", Look::Number),
+];
+
+#[rattlefmt::skip]
 const LEFT_OUT: [ColumnForm; 6] = [
     ("party", "party", "Partei", Look::Text(12)),
     ("party_name", "name", "Name", Look::Text(30)),
     ("valid", "votes", "Stimmen", Look::Number),
     ("percent", "percent", "Prozent", Look::Number),
     ("votes_short", "lacks votes", "Stimmen fehlen", Look::Number),
-    (
-        "winners_short",
-        "lacks winners",
-        "Wahlkreise fehlen",
-        Look::Number,
-    ),
+    ("winners_short", "lacks winners", "Wahlkreise fehlen", Look::Number),
+];
+
+#[rattlefmt::skip]
+const LEFT_OUT_SHORT: [ColumnForm; 6] = [
+    ("party", "", "", Look::Hidden),
+    ("party_name", "party", "Partei", Look::Text(30)),
+    ("valid", "votes", "Stimmen", Look::Number),
+    ("percent", "percent", "Prozent", Look::Number),
+    ("votes_short", "lacks votes", "Stimmen fehlen", Look::Number),
+    ("winners_short", "lacks winners", "Wahlkreise fehlen", Look::Number),
 ];
 
 // By how many seats there are more or fewer than before, where these are known.
@@ -67,18 +86,13 @@ fn change(seats: u64, before: Option<u64>) -> Cell
     }
 }
 
-// Adds the row of a party, of so many valid votes in all.
-fn push_pressed(
-    alloc: Global,
-    sheet: &mut Sheet,
-    pressed: Pressed,
-    valid: u64,
-) -> Result<(), NoMemory>
-    ensures { OnOk result (table_of sheet.new ≡ with_rows (table_of sheet.old) (press_row valid pressed ∷ [])) }
+// The row of a party, of so many valid votes in all.
+fn pressed_row(alloc: Global, pressed: Pressed, valid: u64) -> Result<Vec<Cell>, NoMemory>
+    ensures { IfOk result (λ row. contents_of row.items ≡ press_row valid pressed) }
 {
     let votes = pressed.part.votes.valid;
     let seats = pressed.seats.seats;
-    sheet.push(vec![in alloc;
+    Ok(vec![in alloc;
         Cell::Entry(Item::Party(pressed.party)),
         name(Item::Party(pressed.party)),
         Cell::Number(seats),
@@ -101,21 +115,20 @@ fn all_seats_before(earlier: Option<&[EarlierParty<'_>]>) -> Option<u64>
     }
 }
 
-// Adds the row of all together, of so many valid votes in all.
-fn push_sum(
+// The row of all together, of so many valid votes in all.
+fn sum_row(
     alloc: Global,
-    sheet: &mut Sheet,
     returns: &Returns,
     table: &Table,
     earlier: Option<&[EarlierParty<'_>]>,
     valid: u64,
-) -> Result<(), NoMemory>
+) -> Result<Vec<Cell>, NoMemory>
     requires { valid ≡ all_valid_votes returns.now }
-    ensures { OnOk result (table_of sheet.new ≡ with_rows (table_of sheet.old) (sum_row returns.now table.now (option_map (λ all. all.now) earlier.entry) ∷ [])) }
+    ensures { IfOk result (λ row. contents_of row.items ≡ sum_row returns.now table.now (option_map (λ all. all.now) earlier.entry)) }
 {
     let all = seats_in_all(table);
     let before = all_seats_before(earlier);
-    sheet.push(vec![in alloc;
+    Ok(vec![in alloc;
         Cell::Empty,
         Cell::Word(ALL),
         Cell::Number(all.seats),
@@ -128,33 +141,13 @@ fn push_sum(
     ]?)
 }
 
-// Adds the rows of these parties, of so many valid votes in all.
-fn push_each(
-    alloc: Global,
-    sheet: &mut Sheet,
-    found: &[Pressed],
-    valid: u64,
-) -> Result<(), NoMemory>
-    ensures { OnOk result (table_of sheet.new ≡ with_rows (table_of sheet.old) (map (press_row valid) found.now)) }
-{
-    for pressed in found {
-        push_pressed(alloc, sheet, *pressed, valid)?;
-    }
-    Ok(())
-}
-
-// Adds the row of a party that had seats, and that the returns do not have.
-fn push_gone(
-    alloc: Global,
-    sheet: &mut Sheet,
-    full: &FullNames,
-    party: EarlierParty<'_>,
-) -> Result<(), NoMemory>
-    ensures { OnOk result (table_of sheet.new ≡ with_rows (table_of sheet.old) (gone_row party.entry ∷ [])) }
+// The row of a party that had seats, and that the returns do not have.
+fn gone_row(alloc: Global, full: &FullNames, party: EarlierParty<'_>) -> Result<Vec<Cell>, NoMemory>
+    ensures { IfOk result (λ row. contents_of row.items ≡ gone_row party.entry) }
 {
     let short = owned(alloc, party.name)?;
     let full = owned(alloc, full.full(party.name).unwrap_or(party.name))?;
-    sheet.push(vec![in alloc;
+    Ok(vec![in alloc;
         Cell::Text(short),
         Cell::Prose(full),
         Cell::Number(0),
@@ -167,23 +160,9 @@ fn push_gone(
     ]?)
 }
 
-// Adds the rows of these parties.
-fn push_all_gone(
-    alloc: Global,
-    sheet: &mut Sheet,
-    full: &FullNames,
-    parties: &[EarlierParty<'_>],
-) -> Result<(), NoMemory>
-    ensures { OnOk result (table_of sheet.new ≡ with_rows (table_of sheet.old) (map gone_row parties.now)) }
-{
-    for party in parties {
-        push_gone(alloc, sheet, full, *party)?;
-    }
-    Ok(())
-}
-
 // Adds the rows of the parties of an earlier table, if one is given, that had seats and that the returns do not have.
-fn push_gone_from(
+#[tactic(auto, using(crate::proofs::MoreRows::rows_next))]
+fn push_gone(
     alloc: Global,
     sheet: &mut Sheet,
     full: &FullNames,
@@ -196,117 +175,103 @@ fn push_gone_from(
         return Ok(());
     };
     let parties = gone(alloc, returns, earlier)?;
-    push_all_gone(alloc, sheet, full, parties.as_slice())
+    for party in parties.as_slice() {
+        sheet.push(gone_row(alloc, full, *party)?)?;
+    }
+    Ok(())
 }
 
 // The parties with a seat or a constituency, now or before, and all together.
 fn press_sheet(
     alloc: Global,
     setting: &Setting<'_>,
-    names: &Names,
     full: &FullNames,
+    are_full: bool,
     table: &Table,
     earlier: Option<&[EarlierParty<'_>]>,
 ) -> Result<Sheet, NoMemory>
     ensures { IfOk result (λ s. (found : List Pressed)
         × ArePressed setting.now.book.now.eligible.items table.now setting.now.returns.now (option_map (λ all. all.now) earlier.entry) found
-        × (table_of s ≡ press_table setting.now.returns.now table.now (option_map (λ all. all.now) earlier.entry) found)) }
+        × (table_of s ≡ press_table are_full setting.now.returns.now table.now (option_map (λ all. all.now) earlier.entry) found)) }
 {
     let found = by_seats(alloc, setting, table, earlier)?;
     let returns = setting.returns;
     let valid = all_votes(returns).valid;
-    let mut sheet = titled(alloc, names, "press", PRESS_TITLE, &PRESS)?;
-    push_each(alloc, &mut sheet, found.as_slice(), valid)?;
-    push_gone_from(alloc, &mut sheet, full, returns, earlier)?;
-    push_sum(alloc, &mut sheet, returns, table, earlier, valid).and(Ok(sheet))
+    let columns = if are_full { &PRESS } else { &PRESS_SHORT };
+    let mut sheet = Sheet::new(alloc, "press", Title::Words(PRESS_TITLE), columns)?;
+    for pressed in found.as_slice() {
+        sheet.push(pressed_row(alloc, *pressed, valid)?)?;
+    }
+    push_gone(alloc, &mut sheet, full, returns, earlier)?;
+    sheet.push(sum_row(alloc, returns, table, earlier, valid)?)?;
+    Ok(sheet)
 }
 
 // Whether a scope is the whole country.
 fn is_whole(scoped: &Scoped) -> bool
     ensures { result ≡ is_whole scoped.now }
 {
-    match scoped.scope {
-        Scope::All => true,
-        Scope::Land(_) | Scope::Party(_) | Scope::List(_, _) => false,
-    }
-}
-
-// Adds the row of a scope of the whole country.
-fn push_whole(alloc: Global, sheet: &mut Sheet, scoped: &Scoped) -> Result<(), NoMemory>
-    ensures { OnOk result (table_of sheet.new ≡ with_rows (table_of sheet.old) (if is_whole scoped.now then scope_row scoped.now ∷ [] else [])) }
-{
-    if is_whole(scoped) {
-        push_scope(alloc, sheet, scoped)?;
-    }
-    Ok(())
+    matches!(scoped.scope, Scope::All)
 }
 
 // A line for each scope of the whole country.
 #[tactic(auto, using(crate::proofs::MoreRows::rows_kept))]
-fn whole_sheet(alloc: Global, names: &Names, scopes: &[Scoped]) -> Result<Sheet, NoMemory>
+fn whole_sheet(alloc: Global, scopes: &[Scoped]) -> Result<Sheet, NoMemory>
     ensures { IfOk result (λ s. table_of s ≡ scopes_table (filter is_whole scopes.now)) }
 {
-    let mut sheet = titled(alloc, names, "scopes", LAST_SEATS_TITLE, &SCOPES)?;
+    let mut sheet = Sheet::new(alloc, "scopes", Title::Words(LAST_SEATS_TITLE), &SCOPES)?;
     for scoped in scopes {
-        push_whole(alloc, &mut sheet, scoped)?;
+        if is_whole(scoped) {
+            sheet.push(scope_row(alloc, scoped)?)?;
+        }
     }
     Ok(sheet)
 }
 
-// Adds the row of a party that is left out, with what it lacks.
-fn push_lacking(
+// The row of a party that is left out, with what it lacks.
+fn lacking_row(
     alloc: Global,
-    sheet: &mut Sheet,
-    conditions: &[Cond],
-    returns: &Returns,
+    setting: &Setting<'_>,
     standing: Standing,
-) -> Result<(), NoMemory>
-    ensures { OnOk result ((row : List Content) × IsLackingRow conditions.now returns.now standing row × (table_of sheet.new ≡ with_rows (table_of sheet.old) (row ∷ []))) }
+) -> Result<Vec<Cell>, NoMemory>
+    ensures { IfOk result (λ row. IsLackingRow setting.now.book.now.eligible.items setting.now.returns.now standing (contents_of row.items)) }
 {
-    let valid = all_votes(returns).valid;
+    let conditions = setting.book.eligible.as_slice();
+    let valid = all_votes(setting.returns).valid;
     let part = standing.part;
-    sheet.push(vec![in alloc;
+    Ok(vec![in alloc;
         Cell::Entry(Item::Party(standing.party)),
         name(Item::Party(standing.party)),
         Cell::Number(part.votes.valid),
         rounded(part.votes.valid, valid),
         Cell::known(lacking_votes(conditions, part, valid)),
         Cell::known(lacking_winners(conditions, part)),
-    ]?)?;
-    Ok(())
+    ]?)
 }
 
 // Adds the row of the first of these parties, if there is one.
 fn push_first(
     alloc: Global,
     sheet: &mut Sheet,
-    conditions: &[Cond],
-    returns: &Returns,
+    setting: &Setting<'_>,
     found: &[Standing],
 ) -> Result<(), NoMemory>
-    ensures { OnOk result ((rows : List (List Content)) × AllZip (IsLackingRow conditions.now returns.now) (take 1 found.now) rows × (table_of sheet.new ≡ with_rows (table_of sheet.old) rows)) }
+    ensures { OnOk result ((rows : List (List Content)) × AllZip (IsLackingRow setting.now.book.now.eligible.items setting.now.returns.now) (take 1 found.now) rows × (table_of sheet.new ≡ with_rows (table_of sheet.old) rows)) }
 {
     match found.first() {
-        Some(first) => push_lacking(alloc, sheet, conditions, returns, *first),
+        Some(first) => sheet.push(lacking_row(alloc, setting, *first)?),
         None => Ok(()),
     }
 }
 
 // The largest party of those left out.
-fn lacking_sheet(alloc: Global, setting: &Setting<'_>, names: &Names) -> Result<Sheet, NoMemory>
-    ensures { IfOk result (λ s. IsLackingTable setting.now.book.now.eligible.items setting.now.returns.now (table_of s)) }
+fn lacking_sheet(alloc: Global, setting: &Setting<'_>, are_full: bool) -> Result<Sheet, NoMemory>
+    ensures { IfOk result (λ s. IsLackingTable are_full setting.now.book.now.eligible.items setting.now.returns.now (table_of s)) }
 {
-    let conditions = setting.book.eligible.as_slice();
     let found = left_out(alloc, setting)?;
-    let mut sheet = titled(alloc, names, "left_out", LEFT_OUT_TITLE, &LEFT_OUT)?;
-    push_first(
-        alloc,
-        &mut sheet,
-        conditions,
-        setting.returns,
-        found.as_slice(),
-    )
-    .and(Ok(sheet))
+    let columns = if are_full { &LEFT_OUT } else { &LEFT_OUT_SHORT };
+    let mut sheet = Sheet::new(alloc, "left_out", Title::Words(LEFT_OUT_TITLE), columns)?;
+    push_first(alloc, &mut sheet, setting, found.as_slice()).and(Ok(sheet))
 }
 
 /// The sheets of a press report on one count: the law; the parties with seats or constituencies, in the order of their seats, and all together, beside
@@ -315,7 +280,6 @@ fn lacking_sheet(alloc: Global, setting: &Setting<'_>, names: &Names) -> Result<
 pub(crate) fn press_sheets(
     alloc: Global,
     setting: &Setting<'_>,
-    names: &Names,
     full: &FullNames,
     counted: &Counted,
     earlier: Option<&[EarlierParty<'_>]>,
@@ -324,15 +288,16 @@ pub(crate) fn press_sheets(
     ensures { IfOk result (λ sheets. IsPressReport setting.now.book.now setting.now.returns.now (option_map (λ all. all.now) earlier.entry) counted.now
         (map table_of sheets.items)) }
 {
+    let are_full = !full.is_empty();
     let table = &counted.table;
     let scopes = all_scopes(alloc, setting, counted)?;
     let mut sheets: Vec<Sheet> = Vec::new(alloc);
-    add_sheet(&mut sheets, law_sheet(alloc, setting, names, Some(table)))?;
+    add_sheet(&mut sheets, law_sheet(alloc, setting, Some(table)))?;
     add_sheet(
         &mut sheets,
-        press_sheet(alloc, setting, names, full, table, earlier),
+        press_sheet(alloc, setting, full, are_full, table, earlier),
     )?;
-    add_sheet(&mut sheets, whole_sheet(alloc, names, scopes.as_slice()))?;
-    add_sheet(&mut sheets, lacking_sheet(alloc, setting, names))?;
+    add_sheet(&mut sheets, whole_sheet(alloc, scopes.as_slice()))?;
+    add_sheet(&mut sheets, lacking_sheet(alloc, setting, are_full))?;
     Ok(sheets)
 }

@@ -1,23 +1,19 @@
 //! Cells that several tables have, and sheets under a title.
 
-ghost use Rattle.std.specs.Prelude.{◌≡◌, ◌++◌, ◌∷◌, [], IfOk, Ok, OnOk, map};
+ghost use Rattle.std.specs.Prelude.{◌≡◌, ◌++◌, ◌∷◌, [], IfOk, Ok, OnOk};
 ghost use Rattle.sl_law_meaning.specs.declared.fault.Scope.TheVariants as scopes;
 ghost use Rattle.sl_report_forms.specs.Cells.{a_name, a_word, content_of};
 ghost use Rattle.sl_report_forms.specs.declared.sheet.Sheet.{Sheet};
-ghost use Rattle.sl_report_forms.specs.Tables.{blank_table, contents_of, table_of, with_columns, with_rows};
+ghost use Rattle.sl_report_forms.specs.Tables.{blank_table, contents_of, heads_of, table_of, with_rows};
 ghost use Rattle.sl_report_tables.specs.Parts.{condition_cell, exact_cell, fraction_cell, fraction_exact_cell, land_side, party_cell, party_name_cell, party_side, percent_cell, percent_exact_cell, rounded_cell};
 
 use crate::lowest::lowest;
-use crate::texts::{NOTHING, PARTY};
 use sl_base_quotients::NoMemory;
 use sl_explain_texts::Message;
-use sl_report_forms::{Cell, Head, Look, Names, Sheet};
+use sl_report_forms::{Cell, ColumnForm, Sheet, Title};
 use sl_report_results::Fraction;
 use sl_stages::{Cond, Item, Scope};
 use std::alloc::Global;
-
-/// A column of a kind of sheets: its key, what stands over it in English and in German, and its look.
-pub(crate) type ColumnForm = (&'static str, &'static str, &'static str, Look);
 
 // Decimal places of fractions that are no percentages.
 const PLACES: u32 = 4;
@@ -136,73 +132,17 @@ pub(crate) fn fraction_exact(fraction: Option<Fraction>) -> Cell
     }
 }
 
-// What stands over a column, and its look. Without full names, the name of a party is shown once.
-fn shown_as(names: &Names, column: &ColumnForm) -> (&'static str, Look) {
-    let (key, english, german, look) = *column;
-    let (head, look) = match (key, english) {
-        ("party", "party") if !names.are_full => (NOTHING, Look::Hidden),
-        ("party_name", "name") if !names.are_full => (PARTY, look),
-        _ => (Message(english, german), look),
-    };
-    (head.in_language(names.language), look)
-}
-
-// Adds these columns, with what stands over them.
-fn push_columns(
-    alloc: Global,
-    sheet: &mut Sheet,
-    names: &Names,
-    columns: &[ColumnForm],
-) -> Result<(), NoMemory>
-    ensures { OnOk result (table_of sheet.new ≡ with_columns (table_of sheet.old) (map (λ c. c.0.now) columns.now)) }
-{
-    for column in columns {
-        let (title, look) = shown_as(names, column);
-        sheet.push_head(Head::new(alloc, column.0, title, look)?)?;
-    }
-    Ok(())
-}
-
-/// A sheet without rows, under a title that is given away.
-pub(crate) fn blank(
-    alloc: Global,
-    names: &Names,
-    key: &'static str,
-    title: String,
-    columns: &[ColumnForm],
-) -> Result<Sheet, NoMemory>
-    ensures { IfOk result (λ s. table_of s ≡ blank_table key.now (map (λ c. c.0.now) columns.now)) }
-{
-    let mut sheet = Sheet::new(alloc, key, title);
-    push_columns(alloc, &mut sheet, names, columns).and(Ok(sheet))
-}
-
-/// A sheet without rows, under a title.
-pub(crate) fn titled(
-    alloc: Global,
-    names: &Names,
-    key: &'static str,
-    title: Message,
-    columns: &[ColumnForm],
-) -> Result<Sheet, NoMemory>
-    ensures { IfOk result (λ s. table_of s ≡ blank_table key.now (map (λ c. c.0.now) columns.now)) }
-{
-    let title = String::from_str(alloc, title.in_language(names.language))?;
-    blank(alloc, names, key, title, columns)
-}
-
 /// A sheet of this row, under a title.
 pub(crate) fn one_row_sheet(
     alloc: Global,
-    names: &Names,
     key: &'static str,
     title: Message,
     columns: &[ColumnForm],
     row: Vec<Cell>,
 ) -> Result<Sheet, NoMemory>
-    ensures { IfOk result (λ s. table_of s ≡ with_rows (blank_table key.now (map (λ c. c.0.now) columns.now)) (contents_of row.items ∷ [])) }
+    ensures { IfOk result (λ s. table_of s ≡ with_rows (blank_table key.now (heads_of columns.now)) (contents_of row.items ∷ [])) }
 {
-    let mut sheet = titled(alloc, names, key, title, columns)?;
+    let mut sheet = Sheet::new(alloc, key, Title::Words(title), columns)?;
     sheet.push(row).and(Ok(sheet))
 }
 

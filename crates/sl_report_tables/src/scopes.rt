@@ -2,17 +2,15 @@
 
 ghost use Rattle.std.specs.Prelude.{◌≡◌, ◌∷◌, [], IfOk, OnOk, Some, if◌then◌else◌, option_map, slice_get};
 ghost use Rattle.sl_report_forms.specs.Cells.{a_number, content_of, nothing};
-ghost use Rattle.sl_report_forms.specs.Tables.{table_of, with_rows};
+ghost use Rattle.sl_report_forms.specs.Tables.{contents_of, table_of};
 ghost use Rattle.sl_report_tables.specs.Scopes.{border_cell, claimants_cell, divisor_cell, entries_at, entries_table, entry_row, scope_row, scopes_table};
 
 use crate::lowest::lowest;
-use crate::rows::{
-    ColumnForm, blank, fraction, fraction_exact, keyword, land_side, party_side, titled,
-};
+use crate::rows::{fraction, fraction_exact, keyword, land_side, party_side};
 use crate::texts::{DISTRIBUTIONS_TITLE, STAGE_TITLE};
 use crate::words::method_word;
 use sl_base_quotients::{NoMemory, Ratio};
-use sl_report_forms::{Cell, Look, Names, Sheet};
+use sl_report_forms::{Cell, ColumnForm, Look, Sheet, Title};
 use sl_report_results::{Entry, Fraction, Scoped};
 use sl_stages::Item;
 use std::alloc::Global;
@@ -105,13 +103,13 @@ fn divisor(scoped: &Scoped) -> Cell
     }
 }
 
-/// Adds the row of a scope.
-pub(crate) fn push_scope(alloc: Global, sheet: &mut Sheet, scoped: &Scoped) -> Result<(), NoMemory>
-    ensures { OnOk result (table_of sheet.new ≡ with_rows (table_of sheet.old) (scope_row scoped.now ∷ [])) }
+/// The row of a scope.
+pub(crate) fn scope_row(alloc: Global, scoped: &Scoped) -> Result<Vec<Cell>, NoMemory>
+    ensures { IfOk result (λ row. contents_of row.items ≡ scope_row scoped.now) }
 {
     let last = claimants(alloc, scoped, scoped.last.as_slice())?;
     let next = claimants(alloc, scoped, scoped.next.as_slice())?;
-    sheet.push(vec![in alloc;
+    Ok(vec![in alloc;
         Cell::Stage(scoped.stage),
         Cell::Scope(scoped.scope),
         Cell::ScopeName(scoped.scope),
@@ -131,30 +129,21 @@ pub(crate) fn push_scope(alloc: Global, sheet: &mut Sheet, scoped: &Scoped) -> R
 
 /// A line for each scope.
 #[tactic(auto, using(crate::proofs::MoreRows::rows_next))]
-pub(crate) fn scopes_sheet(
-    alloc: Global,
-    names: &Names,
-    scopes: &[Scoped],
-) -> Result<Sheet, NoMemory>
+pub(crate) fn scopes_sheet(alloc: Global, scopes: &[Scoped]) -> Result<Sheet, NoMemory>
     ensures { IfOk result (λ s. table_of s ≡ scopes_table scopes.now) }
 {
-    let mut sheet = titled(alloc, names, "scopes", DISTRIBUTIONS_TITLE, &SCOPES)?;
+    let mut sheet = Sheet::new(alloc, "scopes", Title::Words(DISTRIBUTIONS_TITLE), &SCOPES)?;
     for scoped in scopes {
-        push_scope(alloc, &mut sheet, scoped)?;
+        sheet.push(scope_row(alloc, scoped)?)?;
     }
     Ok(sheet)
 }
 
-// Adds the row of an entry of a scope.
-fn push_entry(
-    alloc: Global,
-    sheet: &mut Sheet,
-    scoped: &Scoped,
-    entry: Entry,
-) -> Result<(), NoMemory>
-    ensures { OnOk result (table_of sheet.new ≡ with_rows (table_of sheet.old) (entry_row scoped.now entry ∷ [])) }
+// The row of an entry of a scope.
+fn entry_row(alloc: Global, scoped: &Scoped, entry: Entry) -> Result<Vec<Cell>, NoMemory>
+    ensures { IfOk result (λ row. contents_of row.items ≡ entry_row scoped.now entry) }
 {
-    sheet.push(vec![in alloc;
+    Ok(vec![in alloc;
         Cell::Stage(scoped.stage),
         Cell::Scope(scoped.scope),
         Cell::Entry(entry.item),
@@ -172,26 +161,14 @@ fn push_entry(
     ]?)
 }
 
-// The title of a scope's entries.
-fn entries_title(alloc: Global, names: &Names, scoped: &Scoped) -> Result<String, NoMemory> {
-    let word = STAGE_TITLE.in_language(names.language);
-    let stage = names.stage(scoped.stage);
-    let scope = names.scope_name(alloc, names.language, scoped.scope)?;
-    Ok(format!(in alloc; "{word} {stage}, {scope}")?)
-}
-
 /// The entries of a scope.
-pub(crate) fn entries_sheet(
-    alloc: Global,
-    names: &Names,
-    scoped: &Scoped,
-) -> Result<Sheet, NoMemory>
+pub(crate) fn entries_sheet(alloc: Global, scoped: &Scoped) -> Result<Sheet, NoMemory>
     ensures { IfOk result (λ s. table_of s ≡ entries_table scoped.now) }
 {
-    let title = entries_title(alloc, names, scoped)?;
-    let mut sheet = blank(alloc, names, "entries", title, &ENTRIES)?;
+    let title = Title::Scope(STAGE_TITLE, scoped.stage, scoped.scope);
+    let mut sheet = Sheet::new(alloc, "entries", title, &ENTRIES)?;
     for entry in &scoped.entries {
-        push_entry(alloc, &mut sheet, scoped, *entry)?;
+        sheet.push(entry_row(alloc, scoped, *entry)?)?;
     }
     Ok(sheet)
 }

@@ -1,17 +1,16 @@
 //! The sheets of all stages: a line for each, and its column.
 
-ghost use Rattle.std.specs.List.{enumerate_from};
-ghost use Rattle.std.specs.Prelude.{◌≡◌, ◌∷◌, [], IfOk, OnOk, map};
-ghost use Rattle.sl_report_forms.specs.Tables.{table_of, with_rows};
-ghost use Rattle.sl_report_tables.specs.Stages.{AreStageTables, IsStagesTable, cell_row, cell_rows, cells_table, one_row, stage_row, stage_row_by, unit_at};
+ghost use Rattle.std.specs.Prelude.{◌≡◌, IfOk, OnOk, map};
+ghost use Rattle.sl_report_forms.specs.Tables.{contents_of, table_of, with_rows};
+ghost use Rattle.sl_report_tables.specs.Stages.{AreStageTables, IsStagesTable, cell_row, cells_table, one_row, stage_row, unit_at};
 ghost use Rattle.sl_law_meaning.specs.meaning.Scopes.{entries_of};
 
-use crate::rows::{ColumnForm, add_sheet, blank, titled};
+use crate::rows::add_sheet;
 use crate::texts::{STAGE_TITLE, STAGES_TITLE};
 use crate::words::{shape_cell, unit_cell};
 use sl_base_quotients::NoMemory;
 use sl_check::types_of;
-use sl_report_forms::{ALL, Cell, Look, Names, Sheet};
+use sl_report_forms::{ALL, Cell, ColumnForm, Look, Sheet, Title};
 use sl_report_parties::Setting;
 use sl_report_results::{Column, Counted, entries_of, number_of, sum_of};
 use sl_stages::{Book, ColumnType, Item, Returns, Scope, Shape, Unit};
@@ -38,17 +37,16 @@ pub(crate) fn stage_number(book: &Book, name: &[u8]) -> Option<usize> {
     stages.position(|stage| stage.name.as_bytes() == name)
 }
 
-// Adds the row of a stage.
-fn push_stage(
+// The row of a stage.
+fn stage_row(
     alloc: Global,
-    sheet: &mut Sheet,
     number: usize,
     unit: Unit,
     column: &Column,
-) -> Result<(), NoMemory>
-    ensures { OnOk result (table_of sheet.new ≡ with_rows (table_of sheet.old) (stage_row unit (number, column.now) ∷ [])) }
+) -> Result<Vec<Cell>, NoMemory>
+    ensures { IfOk result (λ row. contents_of row.items ≡ stage_row unit (number, column.now)) }
 {
-    sheet.push(vec![in alloc;
+    Ok(vec![in alloc;
         Cell::Number((number as u64).saturating_add(1)),
         Cell::Stage(number),
         shape_cell(column.shape),
@@ -64,41 +62,24 @@ fn unit_at(types: &[ColumnType], number: usize) -> Unit
     types.get(number).map_or(Unit::Seats, |of| of.unit)
 }
 
-// Adds the rows of the stages, whose columns have these types.
-fn push_stages(
-    alloc: Global,
-    sheet: &mut Sheet,
-    types: &[ColumnType],
-    columns: &[Column],
-) -> Result<(), NoMemory>
-    ensures { OnOk result (table_of sheet.new ≡ with_rows (table_of sheet.old) (map (stage_row_by types.now) (enumerate_from 0 columns.now))) }
-{
-    for (number, column) in columns.iter().enumerate() {
-        let unit = unit_at(types, number);
-        push_stage(alloc, sheet, number, unit, column)?;
-    }
-    Ok(())
-}
-
 // A line for each stage.
-fn stages_sheet(
-    alloc: Global,
-    book: &Book,
-    names: &Names,
-    columns: &[Column],
-) -> Result<Sheet, NoMemory>
+fn stages_sheet(alloc: Global, book: &Book, columns: &[Column]) -> Result<Sheet, NoMemory>
     ensures { IfOk result (λ s. IsStagesTable columns.now (table_of s)) }
 {
-    let mut sheet = titled(alloc, names, "stages", STAGES_TITLE, &STAGES)?;
+    let mut sheet = Sheet::new(alloc, "stages", Title::Words(STAGES_TITLE), &STAGES)?;
     let types = types_of(book.stages.as_slice());
-    push_stages(alloc, &mut sheet, &types, columns).and(Ok(sheet))
+    for (number, column) in columns.iter().enumerate() {
+        let unit = unit_at(&types, number);
+        sheet.push(stage_row(alloc, number, unit, column)?)?;
+    }
+    Ok(sheet)
 }
 
-// Adds the row of a column of one number.
-fn push_one(alloc: Global, sheet: &mut Sheet, stage: usize, column: &Column) -> Result<(), NoMemory>
-    ensures { OnOk result (table_of sheet.new ≡ with_rows (table_of sheet.old) (one_row stage column.now ∷ [])) }
+// The row of a column of one number.
+fn one_row(alloc: Global, stage: usize, column: &Column) -> Result<Vec<Cell>, NoMemory>
+    ensures { IfOk result (λ row. contents_of row.items ≡ one_row stage column.now) }
 {
-    sheet.push(vec![in alloc;
+    Ok(vec![in alloc;
         Cell::Stage(stage),
         Cell::Word(ALL),
         Cell::Word(ALL),
@@ -106,18 +87,17 @@ fn push_one(alloc: Global, sheet: &mut Sheet, stage: usize, column: &Column) -> 
     ]?)
 }
 
-// Adds the row of an entry of a column.
-fn push_entry(
+// The row of an entry of a column.
+fn entry_row(
     alloc: Global,
-    sheet: &mut Sheet,
     returns: &Returns,
     stage: usize,
     column: &Column,
     entry: Item,
-) -> Result<(), NoMemory>
-    ensures { OnOk result (table_of sheet.new ≡ with_rows (table_of sheet.old) (cell_row returns.now stage column.now entry ∷ [])) }
+) -> Result<Vec<Cell>, NoMemory>
+    ensures { IfOk result (λ row. contents_of row.items ≡ cell_row returns.now stage column.now entry) }
 {
-    sheet.push(vec![in alloc;
+    Ok(vec![in alloc;
         Cell::Stage(stage),
         Cell::Entry(entry),
         Cell::EntryName(entry, Scope::All),
@@ -137,51 +117,35 @@ fn push_entries(
 {
     let entries = entries_of(alloc, returns, column.shape)?;
     for entry in &entries {
-        push_entry(alloc, sheet, returns, stage, column, *entry)?;
+        sheet.push(entry_row(alloc, returns, stage, column, *entry)?)?;
     }
     Ok(())
-}
-
-// Adds the rows of a stage's column.
-fn push_cells(
-    alloc: Global,
-    sheet: &mut Sheet,
-    returns: &Returns,
-    stage: usize,
-    column: &Column,
-) -> Result<(), NoMemory>
-    ensures { OnOk result (table_of sheet.new ≡ with_rows (table_of sheet.old) (cell_rows returns.now stage column.now.shape column.now)) }
-{
-    match column.shape {
-        Shape::One => push_one(alloc, sheet, stage, column),
-        Shape::Party => push_entries(alloc, sheet, returns, stage, column),
-        Shape::Land => push_entries(alloc, sheet, returns, stage, column),
-        Shape::List => push_entries(alloc, sheet, returns, stage, column),
-    }
 }
 
 // The column of a stage.
 fn cells_sheet(
     alloc: Global,
     returns: &Returns,
-    names: &Names,
     stage: usize,
     column: &Column,
 ) -> Result<Sheet, NoMemory>
     ensures { IfOk result (λ s. table_of s ≡ cells_table returns.now (stage, column.now)) }
 {
-    let word = STAGE_TITLE.in_language(names.language);
-    let name = names.stage(stage);
-    let title = format!(in alloc; "{word} {name}")?;
-    let mut sheet = blank(alloc, names, "cells", title, &CELLS)?;
-    push_cells(alloc, &mut sheet, returns, stage, column).and(Ok(sheet))
+    let title = Title::Stage(STAGE_TITLE, stage);
+    let mut sheet = Sheet::new(alloc, "cells", title, &CELLS)?;
+    match column.shape {
+        Shape::One => sheet.push(one_row(alloc, stage, column)?)?,
+        Shape::Party | Shape::Land | Shape::List => {
+            push_entries(alloc, &mut sheet, returns, stage, column)?;
+        }
+    }
+    Ok(sheet)
 }
 
 /// The sheets of all stages of a count.
 pub fn stage_sheets(
     alloc: Global,
     setting: &Setting<'_>,
-    names: &Names,
     counted: &Counted,
 ) -> Result<Vec<Sheet>, NoMemory>
     ensures { IfOk result (λ sheets. AreStageTables setting.now.returns.now counted.now.columns.items (map table_of sheets.items)) }
@@ -189,15 +153,9 @@ pub fn stage_sheets(
     let mut sheets: Vec<Sheet> = Vec::new(alloc);
     let columns = counted.columns.as_slice();
     let returns = setting.returns;
-    add_sheet(
-        &mut sheets,
-        stages_sheet(alloc, setting.book, names, columns),
-    )?;
+    add_sheet(&mut sheets, stages_sheet(alloc, setting.book, columns))?;
     for (stage, column) in columns.iter().enumerate() {
-        add_sheet(
-            &mut sheets,
-            cells_sheet(alloc, returns, names, stage, column),
-        )?;
+        add_sheet(&mut sheets, cells_sheet(alloc, returns, stage, column))?;
     }
     Ok(sheets)
 }

@@ -23,7 +23,7 @@ pub fn totals_answer(
 ) -> Result<Answer, NoMemory>
     ensures { IfOk result (HasTables returns.now (AreTotals (option_map (λ b. b.now) book.entry) returns.now)) }
 {
-    let names = names_of(alloc, None, returns, full, language)?;
-    let sheets = total_sheets(alloc, book, &names, returns)?;
+    let names = names_of(alloc, None, returns, full)?;
+    let sheets = total_sheets(alloc, language, book, returns)?;
     Ok(Answer::done(alloc, names, sheets))
 }

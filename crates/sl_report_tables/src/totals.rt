@@ -1,20 +1,18 @@
 //! The sheets of the totals of returns.
 
-ghost use Rattle.std.specs.Prelude.{◌≡◌, ◌<◌, ◌∷◌, [], IfOk, List, OnOk, if◌then◌else◌, map, nat_lt, option_map};
-ghost use Rattle.sl_report_forms.specs.Cells.{Content};
-ghost use Rattle.sl_report_forms.specs.Tables.{table_of, with_rows};
+ghost use Rattle.std.specs.Prelude.{◌≡◌, ◌<◌, IfOk, OnOk, map, option_map};
+ghost use Rattle.sl_report_forms.specs.Tables.{contents_of, table_of, with_rows};
 ghost use Rattle.sl_report_parties.specs.Parts.{part_of};
-ghost use Rattle.sl_report_tables.specs.Totals.{AreTotals, IsVotesRow, IsVotesTable, conditions_of, land_row, lands_table, totals_table, winners_table, won_at, won_row, won_rows};
+ghost use Rattle.sl_report_tables.specs.Totals.{AreTotals, IsVotesRow, IsVotesTable, conditions_of, land_row, lands_table, totals_table, winners_table, won_rows};
 ghost use Rattle.sl_law_meaning.specs.returns.Election.{lands_of, parties_of};
 ghost use Rattle.sl_law_meaning.specs.returns.Facts.{all_valid_votes};
 
-use crate::rows::{
-    ColumnForm, add_sheet, condition, name, one_row_sheet, percent, percent_exact, titled,
-};
+use crate::rows::{add_sheet, condition, name, one_row_sheet, percent, percent_exact};
 use crate::texts::{LANDS_TITLE, PARTIES_TITLE, TOTALS_TITLE, WINNERS_TITLE};
 use crate::warnings::warnings_sheet;
 use sl_base_quotients::NoMemory;
-use sl_report_forms::{Cell, Look, Names, Sheet};
+use sl_explain_texts::Language;
+use sl_report_forms::{Cell, ColumnForm, Look, Sheet, Title};
 use sl_report_parties::{
     PartyPart, WinnerCounts, all_lists, all_people, all_votes, lacking_votes, lacking_winners,
     land_votes, lists_of, parts_of, winners_of,
@@ -33,6 +31,7 @@ const TOTALS: [ColumnForm; 8] = [
     ("independents", "without party", "ohne Partei", Look::Number),
 ];
 
+#[rattlefmt::skip]
 const VOTES: [ColumnForm; 11] = [
     ("party", "", "", Look::Hidden),
     ("party_name", "party", "Partei", Look::Text(24)),
@@ -42,19 +41,9 @@ const VOTES: [ColumnForm; 11] = [
     ("counted", "counted", "zählend", Look::Number),
     ("lists", "", "", Look::Hidden),
     ("winners", "winners", "Wahlkreise", Look::Number),
-    (
-        "condition",
-        "takes part by",
-        "nimmt teil durch",
-        Look::Text(14),
-    ),
+    ("condition", "takes part by", "nimmt teil durch", Look::Text(14)),
     ("votes_short", "lacks votes", "Stimmen fehlen", Look::Number),
-    (
-        "winners_short",
-        "lacks winners",
-        "Wahlkreise fehlen",
-        Look::Number,
-    ),
+    ("winners_short", "lacks winners", "Wahlkreise fehlen", Look::Number),
 ];
 
 const LANDS: [ColumnForm; 7] = [
@@ -76,7 +65,7 @@ const WINNERS: [ColumnForm; 5] = [
 ];
 
 // The sums of all returns.
-fn totals_sheet(alloc: Global, names: &Names, returns: &Returns) -> Result<Sheet, NoMemory>
+fn totals_sheet(alloc: Global, returns: &Returns) -> Result<Sheet, NoMemory>
     ensures { IfOk result (λ s. table_of s ≡ totals_table returns.now) }
 {
     let votes = all_votes(returns);
@@ -90,25 +79,24 @@ fn totals_sheet(alloc: Global, names: &Names, returns: &Returns) -> Result<Sheet
         Cell::Number(returns.wins() as u64),
         Cell::Number(winners_of(returns, None)),
     ]?;
-    one_row_sheet(alloc, names, "totals", TOTALS_TITLE, &TOTALS, row)
+    one_row_sheet(alloc, "totals", TOTALS_TITLE, &TOTALS, row)
 }
 
-// Adds the row of a party that has so much, of so many valid votes in all.
-fn push_party(
+// The row of a party that has so much, of so many valid votes in all.
+fn party_row(
     alloc: Global,
-    sheet: &mut Sheet,
     conditions: &[Cond],
     returns: &Returns,
     party: usize,
     part: PartyPart,
     valid: u64,
-) -> Result<(), NoMemory>
+) -> Result<Vec<Cell>, NoMemory>
     requires party { party < parties_of returns.now }
     requires part { part ≡ part_of conditions.now returns.now party }
     requires valid { valid ≡ all_valid_votes returns.now }
-    ensures { OnOk result ((row : List Content) × IsVotesRow conditions.now returns.now party row × (table_of sheet.new ≡ with_rows (table_of sheet.old) (row ∷ []))) }
+    ensures { IfOk result (λ row. IsVotesRow conditions.now returns.now party (contents_of row.items)) }
 {
-    sheet.push(vec![in alloc;
+    Ok(vec![in alloc;
         Cell::Entry(Item::Party(party)),
         name(Item::Party(party)),
         Cell::Number(part.votes.valid),
@@ -120,46 +108,33 @@ fn push_party(
         condition(conditions, part.met),
         Cell::known(lacking_votes(conditions, part, valid)),
         Cell::known(lacking_winners(conditions, part)),
-    ]?)?;
-    Ok(())
+    ]?)
 }
 
 // The votes and winners of the parties.
-fn votes_sheet(
-    alloc: Global,
-    conditions: &[Cond],
-    names: &Names,
-    returns: &Returns,
-) -> Result<Sheet, NoMemory>
+fn votes_sheet(alloc: Global, conditions: &[Cond], returns: &Returns) -> Result<Sheet, NoMemory>
     ensures { IfOk result (λ s. IsVotesTable conditions.now returns.now (table_of s)) }
 {
-    let mut sheet = titled(alloc, names, "votes", PARTIES_TITLE, &VOTES)?;
+    let mut sheet = Sheet::new(alloc, "votes", Title::Words(PARTIES_TITLE), &VOTES)?;
     let valid = all_votes(returns).valid;
     let parts = parts_of(alloc, conditions, returns)?;
     for party in 0..returns.parties() {
         let part = parts[party];
-        push_party(alloc, &mut sheet, conditions, returns, party, part, valid)?;
+        sheet.push(party_row(alloc, conditions, returns, party, part, valid)?)?;
     }
     Ok(sheet)
 }
 
-// Adds the row of a Land.
-fn push_land(
-    alloc: Global,
-    sheet: &mut Sheet,
-    returns: &Returns,
-    counts: &WinnerCounts<'_>,
-    land: usize,
-) -> Result<(), NoMemory>
-    requires counts { counts.now.returns.now ≡ returns.now }
-    requires land { land < lands_of returns.now }
-    ensures { OnOk result (table_of sheet.new ≡ with_rows (table_of sheet.old) (land_row returns.now land ∷ [])) }
+// The row of a Land.
+fn land_row(alloc: Global, counts: &WinnerCounts<'_>, land: usize) -> Result<Vec<Cell>, NoMemory>
+    requires { land < lands_of counts.now.returns.now }
+    ensures { IfOk result (λ row. contents_of row.items ≡ land_row counts.now.returns.now land) }
 {
-    let votes = land_votes(returns, land);
-    sheet.push(vec![in alloc;
+    let votes = land_votes(counts.returns, land);
+    Ok(vec![in alloc;
         Cell::Entry(Item::Land(land)),
         name(Item::Land(land)),
-        Cell::Number(u64::from(returns.population(land))),
+        Cell::Number(u64::from(counts.returns.population(land))),
         Cell::Number(votes.valid),
         Cell::Number(votes.counted),
         Cell::Number(counts.in_land(land)),
@@ -168,78 +143,47 @@ fn push_land(
 }
 
 // The people, the votes and the winners of the Länder.
-fn lands_sheet(
-    alloc: Global,
-    names: &Names,
-    returns: &Returns,
-    counts: &WinnerCounts<'_>,
-) -> Result<Sheet, NoMemory>
-    requires { counts.now.returns.now ≡ returns.now }
-    ensures { IfOk result (λ s. table_of s ≡ lands_table returns.now) }
+fn lands_sheet(alloc: Global, counts: &WinnerCounts<'_>) -> Result<Sheet, NoMemory>
+    ensures { IfOk result (λ s. table_of s ≡ lands_table counts.now.returns.now) }
 {
-    let mut sheet = titled(alloc, names, "lands", LANDS_TITLE, &LANDS)?;
-    for land in 0..returns.lands() {
-        push_land(alloc, &mut sheet, returns, counts, land)?;
+    let mut sheet = Sheet::new(alloc, "lands", Title::Words(LANDS_TITLE), &LANDS)?;
+    for land in 0..counts.returns.lands() {
+        sheet.push(land_row(alloc, counts, land)?)?;
     }
     Ok(sheet)
-}
-
-// Adds the winners of a party in a Land, if it has some.
-fn push_won(
-    alloc: Global,
-    sheet: &mut Sheet,
-    returns: &Returns,
-    counts: &WinnerCounts<'_>,
-    land: usize,
-    party: usize,
-) -> Result<(), NoMemory>
-    requires counts { counts.now.returns.now ≡ returns.now }
-    requires party { party < parties_of returns.now }
-    ensures { OnOk result (table_of sheet.new ≡ with_rows (table_of sheet.old) (if nat_lt 0 (won_at returns.now land party) then won_row returns.now land party ∷ [] else [])) }
-{
-    let winners = counts.at(land, party);
-    if winners == 0 {
-        return Ok(());
-    }
-    sheet.push(vec![in alloc;
-        Cell::Entry(Item::Land(land)),
-        name(Item::Land(land)),
-        Cell::Entry(Item::Party(party)),
-        name(Item::Party(party)),
-        Cell::Number(winners),
-    ]?)
 }
 
 // Adds the winners of a Land by party.
 fn push_winners(
     alloc: Global,
     sheet: &mut Sheet,
-    returns: &Returns,
     counts: &WinnerCounts<'_>,
     land: usize,
 ) -> Result<(), NoMemory>
-    requires { counts.now.returns.now ≡ returns.now }
-    ensures { OnOk result (table_of sheet.new ≡ with_rows (table_of sheet.old) (won_rows returns.now land)) }
+    ensures { OnOk result (table_of sheet.new ≡ with_rows (table_of sheet.old) (won_rows counts.now.returns.now land)) }
 {
-    for party in 0..returns.parties() {
-        push_won(alloc, sheet, returns, counts, land, party)?;
+    for party in 0..counts.returns.parties() {
+        let winners = counts.at(land, party);
+        if winners > 0 {
+            sheet.push(vec![in alloc;
+                Cell::Entry(Item::Land(land)),
+                name(Item::Land(land)),
+                Cell::Entry(Item::Party(party)),
+                name(Item::Party(party)),
+                Cell::Number(winners),
+            ]?)?;
+        }
     }
     Ok(())
 }
 
 // The winners by Land and party.
-fn winners_sheet(
-    alloc: Global,
-    names: &Names,
-    returns: &Returns,
-    counts: &WinnerCounts<'_>,
-) -> Result<Sheet, NoMemory>
-    requires { counts.now.returns.now ≡ returns.now }
-    ensures { IfOk result (λ s. table_of s ≡ winners_table returns.now) }
+fn winners_sheet(alloc: Global, counts: &WinnerCounts<'_>) -> Result<Sheet, NoMemory>
+    ensures { IfOk result (λ s. table_of s ≡ winners_table counts.now.returns.now) }
 {
-    let mut sheet = titled(alloc, names, "winners", WINNERS_TITLE, &WINNERS)?;
-    for land in 0..returns.lands() {
-        push_winners(alloc, &mut sheet, returns, counts, land)?;
+    let mut sheet = Sheet::new(alloc, "winners", Title::Words(WINNERS_TITLE), &WINNERS)?;
+    for land in 0..counts.returns.lands() {
+        push_winners(alloc, &mut sheet, counts, land)?;
     }
     Ok(sheet)
 }
@@ -257,8 +201,8 @@ fn conditions_of(book: Option<&Book>) -> &[Cond]
 /// The sheets of the totals: of all returns, by party, by Land, the winners by both, and warnings. With a book, who takes part by it.
 pub(crate) fn total_sheets(
     alloc: Global,
+    language: Language,
     book: Option<&Book>,
-    names: &Names,
     returns: &Returns,
 ) -> Result<Vec<Sheet>, NoMemory>
     ensures { IfOk result (λ sheets. AreTotals (option_map (λ b. b.now) book.entry) returns.now (map table_of sheets.items)) }
@@ -266,10 +210,10 @@ pub(crate) fn total_sheets(
     let conditions = conditions_of(book);
     let counts = WinnerCounts::new(alloc, returns)?;
     let mut sheets: Vec<Sheet> = Vec::new(alloc);
-    add_sheet(&mut sheets, totals_sheet(alloc, names, returns))?;
-    add_sheet(&mut sheets, votes_sheet(alloc, conditions, names, returns))?;
-    add_sheet(&mut sheets, lands_sheet(alloc, names, returns, &counts))?;
-    add_sheet(&mut sheets, winners_sheet(alloc, names, returns, &counts))?;
-    add_sheet(&mut sheets, warnings_sheet(alloc, book, names, returns))?;
+    add_sheet(&mut sheets, totals_sheet(alloc, returns))?;
+    add_sheet(&mut sheets, votes_sheet(alloc, conditions, returns))?;
+    add_sheet(&mut sheets, lands_sheet(alloc, &counts))?;
+    add_sheet(&mut sheets, winners_sheet(alloc, &counts))?;
+    add_sheet(&mut sheets, warnings_sheet(alloc, language, book, returns))?;
     Ok(sheets)
 }

@@ -8,6 +8,7 @@
 mod book;
 mod returns;
 mod sentences;
+mod texts;
 mod warning;
 
 pub use book::warnings_of;

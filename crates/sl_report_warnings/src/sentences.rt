@@ -2,72 +2,15 @@
 
 ghost use Rattle.std.specs.Prelude.{◌≡◌, IfOk};
 ghost use Rattle.sl_explain_texts.specs.Heads.{Begins};
+ghost use Rattle.sl_explain_texts.specs.Messages.{IsFilledBy};
 ghost use Rattle.sl_report_warnings.specs.Heads.{AreWritten, head_of};
 
+use crate::texts;
 use crate::warning::Warning;
 use sl_base_quotients::NoMemory;
 use sl_explain_texts::{Language, Message, Speaker};
 use sl_stages::Returns;
 use std::alloc::Global;
-
-const EQUAL_PEOPLE: Message = Message(
-    "all Länder have the same people; the statute of 2013 splits the house by them",
-    "alle Länder haben gleich viele Einwohner; das Gesetz von 2013 verteilt die Sitze nach ihnen",
-);
-
-const LAND_WITHOUT_WINNERS: Message = Message(
-    "no constituency of $ has a winner",
-    "kein Wahlkreis von $ hat einen Sieger",
-);
-
-const WINNERS_WITHOUT_LIST: Message = Message("$ has $ and no list", "$ hat $ und keine Liste");
-
-const WINNERS_BESIDE_LISTS: Message = Message(
-    "$ has $ in $ and no list there",
-    "$ hat $ in $ und dort keine Liste",
-);
-
-const NOTHING_COUNTED: Message = Message(
-    "$ of $ with valid votes, of which none is counted: column b is 0",
-    "$ von $ mit gültigen Stimmen, von denen keine zählt: Spalte b ist 0",
-);
-
-const SEVERAL_PARTIES: Message = Message(
-    "$ stands for several parties by its name, and takes part as one",
-    "$ steht dem Namen nach für mehrere Parteien und nimmt als eine teil",
-);
-
-const LOT_UNUSED: Message = Message(
-    "a lot names $, where the rulebook draws none",
-    "ein Los nennt $, wo das Regelwerk keines zieht",
-);
-
-const LOT_OF_NO_ENTRY: Message = Message(
-    "a lot for $ names none of those among whom it is drawn: a party, a Land, or both",
-    "ein Los für $ nennt niemanden, unter dem es gezogen wird: eine Partei, ein Land oder beide",
-);
-
-const OTHER_HOUSE: Message = Message(
-    "the returns have a house of $, the rulebook of $",
-    "die Ergebnisse haben eine Hausgröße von $, das Regelwerk von $",
-);
-
-const FEW_PARTIES: Message = Message(
-    "$ alone: a threshold needs the votes of all parties",
-    "nur $: eine Sperrklausel braucht die Stimmen aller Parteien",
-);
-
-const WINNER: Message = Message("$ winner", "$ Wahlkreissieger");
-
-const WINNERS: Message = Message("$ winners", "$ Wahlkreissieger");
-
-const LIST: Message = Message("$ list", "$ Liste");
-
-const LISTS: Message = Message("$ lists", "$ Listen");
-
-const PARTY: Message = Message("$ party", "$ Partei");
-
-const PARTIES: Message = Message("$ parties", "$ Parteien");
 
 // The name of a Land, and no text where there is no such Land.
 fn land_name(returns: &Returns, land: usize) -> &[u8] {
@@ -88,65 +31,35 @@ fn party_name(returns: &Returns, party: usize) -> &[u8] {
 
 // The stage that a lot names.
 fn lot_stage(returns: &Returns, lot: usize) -> &[u8] {
-    match returns.lots().get(lot) {
-        Some(lot) => lot.stage.as_bytes(),
-        None => b"",
-    }
+    let lot = returns.lots().get(lot);
+    lot.map_or(b"", |lot| lot.stage.as_bytes())
 }
 
-// The sentence of a warning of a party's winners.
+// The sentence of a warning of a party's winners, with the name of a Land where it has one.
 fn winners_sentence(
-    alloc: Global,
-    language: Language,
-    returns: &Returns,
-    party: usize,
+    speaker: Speaker,
+    message: &Message,
+    party: &[u8],
     winners: u64,
-    beside: Option<usize>,
-) -> Result<Vec<u8>, NoMemory> {
-    let party = party_name(returns, party);
-    let winners = Speaker { alloc, language }.counted(winners as usize, &WINNER, &WINNERS)?;
-    match beside {
-        Some(land) => {
-            let land = land_name(returns, land);
-            let values = [party, winners.as_slice(), land];
-            WINNERS_BESIDE_LISTS.text(alloc, language, &values)
-        }
-        None => WINNERS_WITHOUT_LIST.text(alloc, language, &[party, winners.as_slice()]),
-    }
+    land: &[u8],
+) -> Result<Vec<u8>, NoMemory>
+    requires { IsFilledBy message.now 3 }
+{
+    let winners = speaker.counted(winners as usize, &texts::WINNER, &texts::WINNERS)?;
+    speaker.text(message, &[party, winners.as_slice(), land])
 }
 
 // The sentence of a warning of lists that count no vote.
-fn lists_sentence(
-    alloc: Global,
-    language: Language,
-    returns: &Returns,
-    party: usize,
-    lists: u64,
-) -> Result<Vec<u8>, NoMemory> {
-    let lists = Speaker { alloc, language }.counted(lists as usize, &LIST, &LISTS)?;
-    let values = [lists.as_slice(), party_name(returns, party)];
-    NOTHING_COUNTED.text(alloc, language, &values)
+fn lists_sentence(speaker: Speaker, party: &[u8], lists: u64) -> Result<Vec<u8>, NoMemory> {
+    let lists = speaker.counted(lists as usize, &texts::LIST, &texts::LISTS)?;
+    speaker.text(&texts::NOTHING_COUNTED, &[lists.as_slice(), party])
 }
 
 // The sentence of a warning of another house.
-fn house_sentence(
-    alloc: Global,
-    language: Language,
-    returns: u32,
-    book: u32,
-) -> Result<Vec<u8>, NoMemory> {
-    let (returns, book) = (returns.to_string(alloc)?, book.to_string(alloc)?);
-    OTHER_HOUSE.text(alloc, language, &[returns.as_bytes(), book.as_bytes()])
-}
-
-// The sentence of a warning of few parties.
-fn parties_sentence(
-    alloc: Global,
-    language: Language,
-    parties: usize,
-) -> Result<Vec<u8>, NoMemory> {
-    let parties = Speaker { alloc, language }.counted(parties, &PARTY, &PARTIES)?;
-    FEW_PARTIES.text(alloc, language, &[parties.as_slice()])
+fn house_sentence(speaker: Speaker, returns: u32, book: u32) -> Result<Vec<u8>, NoMemory> {
+    let returns = speaker.number(returns as usize)?;
+    let book = speaker.number(book as usize)?;
+    speaker.text(&texts::OTHER_HOUSE, &[returns.as_slice(), book.as_slice()])
 }
 
 /// A warning of returns in words, with their short names.
@@ -156,34 +69,41 @@ pub fn sentence(
     returns: &Returns,
     warning: Warning,
 ) -> Result<Vec<u8>, NoMemory> {
+    let speaker = Speaker { alloc, language };
     match warning {
-        Warning::EqualPeople => EQUAL_PEOPLE.text(alloc, language, &[]),
+        Warning::EqualPeople => speaker.text(&texts::EQUAL_PEOPLE, &[]),
         Warning::LandWithoutWinners { land } => {
-            LAND_WITHOUT_WINNERS.text(alloc, language, &[land_name(returns, land)])
+            speaker.text(&texts::LAND_WITHOUT_WINNERS, &[land_name(returns, land)])
         }
         Warning::WinnersWithoutList { party, winners } => {
-            winners_sentence(alloc, language, returns, party, winners, None)
+            let party = party_name(returns, party);
+            winners_sentence(speaker, &texts::WINNERS_WITHOUT_LIST, party, winners, b"")
         }
         Warning::WinnersBesideLists {
             land,
             party,
             winners,
-        } => winners_sentence(alloc, language, returns, party, winners, Some(land)),
+        } => {
+            let (party, land) = (party_name(returns, party), land_name(returns, land));
+            winners_sentence(speaker, &texts::WINNERS_BESIDE_LISTS, party, winners, land)
+        }
         Warning::NothingCounted { party, lists } => {
-            lists_sentence(alloc, language, returns, party, lists)
+            lists_sentence(speaker, party_name(returns, party), lists)
         }
         Warning::SeveralParties { party } => {
-            SEVERAL_PARTIES.text(alloc, language, &[party_name(returns, party)])
+            speaker.text(&texts::SEVERAL_PARTIES, &[party_name(returns, party)])
         }
-        Warning::LotUnused { lot } => LOT_UNUSED.text(alloc, language, &[lot_stage(returns, lot)]),
+        Warning::LotUnused { lot } => {
+            speaker.text(&texts::LOT_UNUSED, &[lot_stage(returns, lot)])
+        }
         Warning::LotOfNoEntry { lot } => {
-            LOT_OF_NO_ENTRY.text(alloc, language, &[lot_stage(returns, lot)])
+            speaker.text(&texts::LOT_OF_NO_ENTRY, &[lot_stage(returns, lot)])
         }
-        Warning::OtherHouse {
-            returns: house,
-            book,
-        } => house_sentence(alloc, language, house, book),
-        Warning::FewParties { parties } => parties_sentence(alloc, language, parties),
+        Warning::OtherHouse { returns, book } => house_sentence(speaker, returns, book),
+        Warning::FewParties { parties } => {
+            let parties = speaker.counted(parties, &texts::PARTY, &texts::PARTIES);
+            speaker.text_with(&texts::FEW_PARTIES, parties)
+        }
     }
 }
 

@@ -3,6 +3,7 @@ mod Columns
 mod Digested
 mod Failing
 mod LibraryWords
+mod Pieces
 mod Reported
 mod Warned
 mod Words

@@ -53,12 +53,11 @@ fn compared(
     books: Vec<NamedBook<'_>>,
     returns: &Returns,
     full: &FullNames,
-    language: Language,
 ) -> Result<Answer, NoMemory>
     ensures { AreGood books.entry.items → IfOk result (ShowsNamed false returns.now books.entry.items) }
 {
     let columns = columns_of(alloc, books)?;
-    compare_judged(alloc, columns, returns, full, language)
+    compare_judged(alloc, columns, returns, full)
 }
 
 // Rulebooks side by side, with the full names of a file, or the answer that refuses these.
@@ -67,12 +66,11 @@ fn comparison(
     books: Vec<NamedBook<'_>>,
     election: &Returns,
     names: Result<FullNames, Answer>,
-    language: Language,
 ) -> Result<Answer, NoMemory>
     ensures { AreGood books.entry.items → IfOk result (ShowsNamed (is_err names) election.now books.entry.items) }
 {
     match names {
-        Ok(full) => compared(alloc, books, election, &full, language),
+        Ok(full) => compared(alloc, books, election, &full),
         Err(refusal) => Ok(Answer::refused(alloc, refusal.line)),
     }
 }
@@ -104,7 +102,7 @@ fn finish_comparison<F: Forms>(
     ensures { AreGood books.entry.items → IfOk result (IsNamedAnswer (F.is_text manner.now.forms.now) manner.now.style (digests manner.now.inputs.now) (is_err names) election.now books.entry.items) }
 {
     let (language, is_refused) = (manner.style.language, names.is_err());
-    let answer = comparison(alloc, books, election, names, language)?;
+    let answer = comparison(alloc, books, election, names)?;
     let said = table_text(alloc, language, is_refused, election)?;
     manner.answered(alloc, &answer, None, said)
 }

@@ -18,8 +18,8 @@ use std::alloc::Global;
 
 // What is said where a rulebook fails a test with another method than its own.
 const OTHER_METHOD: Message = Message(
-    "`--method` put `$` in place of the method here",
-    "`--method` hat hier `$` an die Stelle des Verfahrens gesetzt",
+    "`--method` put `{method}` in place of the method here",
+    "`--method` hat hier `{method}` an die Stelle des Verfahrens gesetzt",
 );
 
 /// The methods that words name.
@@ -127,9 +127,8 @@ pub(crate) fn add_method(
     match method {
         Some(method) => {
             let word = method_word(method).as_bytes();
-            explained
-                .explanation
-                .remedy(OTHER_METHOD.text(alloc, language, &[word])?)
+            let text = OTHER_METHOD.text(alloc, language, &[word])?;
+            explained.explanation.add_remedy(text)
         }
         None => Ok(()),
     }

@@ -29,138 +29,60 @@ pub struct Form {
 }
 
 /// The program itself, whose words are the commands.
-pub static PROGRAM: Form = Form {
-    name: "seatlaw",
-    about: PROGRAM_ABOUT,
-    words: &[],
-    options: &[],
-    more: PROGRAM_MORE,
-    example: "count @2023-order returns.csv",
-    statuses: &ALL,
-};
+#[rattlefmt::skip]
+pub static PROGRAM: Form = Form { name: "seatlaw", about: PROGRAM_ABOUT, words: &[], options: &[],
+    more: PROGRAM_MORE, example: "count @2023-order returns.csv", statuses: &ALL };
 
-static COUNT: Form = Form {
-    name: "count",
-    about: COUNT_ABOUT,
-    words: &[WordName::Book, WordName::Returns],
-    options: &COUNT_OPTIONS,
-    more: COUNT_MORE,
-    example: "count @2023-order returns.csv",
-    statuses: &COUNTS,
-};
+#[rattlefmt::skip]
+static COUNT: Form = Form { name: "count", about: COUNT_ABOUT, words: &[WordName::Book, WordName::Returns], options: &COUNT_OPTIONS,
+    more: COUNT_MORE, example: "count @2023-order returns.csv", statuses: &COUNTS };
 
-static STEPS: Form = Form {
-    name: "steps",
-    about: STEPS_ABOUT,
-    words: &[WordName::Book, WordName::Returns],
-    options: &COUNT_OPTIONS,
-    more: STEPS_MORE,
-    example: "steps @2023-order returns.csv",
-    statuses: &COUNTS,
-};
+#[rattlefmt::skip]
+static STEPS: Form = Form { name: "steps", about: STEPS_ABOUT, words: &[WordName::Book, WordName::Returns], options: &COUNT_OPTIONS,
+    more: STEPS_MORE, example: "steps @2023-order returns.csv", statuses: &COUNTS };
 
-static STAGE: Form = Form {
-    name: "stage",
-    about: STAGE_ABOUT,
-    words: &[WordName::Book, WordName::Returns, WordName::StageName],
-    options: &OPTIONS,
-    more: STAGE_MORE,
-    example: "stage @2013 returns.csv floor",
-    statuses: &COUNTS,
-};
+#[rattlefmt::skip]
+static STAGE: Form = Form { name: "stage", about: STAGE_ABOUT, words: &[WordName::Book, WordName::Returns, WordName::StageName], options: &OPTIONS,
+    more: STAGE_MORE, example: "stage @2013 returns.csv floor", statuses: &COUNTS };
 
-static CHECK: Form = Form {
-    name: "check",
-    about: CHECK_ABOUT,
-    words: &[WordName::Book],
-    options: &OPTIONS,
-    more: CHECK_MORE,
-    example: "check book.law",
-    statuses: &READS,
-};
+#[rattlefmt::skip]
+static CHECK: Form = Form { name: "check", about: CHECK_ABOUT, words: &[WordName::Book], options: &OPTIONS,
+    more: CHECK_MORE, example: "check book.law", statuses: &READS };
 
-static CODE: Form = Form {
-    name: "code",
-    about: CODE_ABOUT,
-    words: &[WordName::Book, WordName::Out],
-    options: &CODE_OPTIONS,
-    more: CODE_MORE,
-    example: "code book.law book.slc",
-    statuses: &READS,
-};
+#[rattlefmt::skip]
+static CODE: Form = Form { name: "code", about: CODE_ABOUT, words: &[WordName::Book, WordName::Out], options: &CODE_OPTIONS,
+    more: CODE_MORE, example: "code book.law book.slc", statuses: &READS };
 
-static RUN: Form = Form {
-    name: "run",
-    about: RUN_ABOUT,
-    words: &[WordName::CodeFile, WordName::Returns],
-    options: &OPTIONS,
-    more: RUN_MORE,
-    example: "run book.slc returns.csv",
-    statuses: &RUNS,
-};
+#[rattlefmt::skip]
+static RUN: Form = Form { name: "run", about: RUN_ABOUT, words: &[WordName::CodeFile, WordName::Returns], options: &OPTIONS,
+    more: RUN_MORE, example: "run book.slc returns.csv", statuses: &RUNS };
 
 /// The name of the command that writes a statute.
 pub(crate) const LAW_NAME: &str = "law";
 
-static LAW: Form = Form {
-    name: LAW_NAME,
-    about: LAW_ABOUT,
-    words: &[WordName::Statute],
-    options: &OPTIONS,
-    more: LAW_MORE,
-    example: "law 2023-order",
-    statuses: &READS,
-};
+#[rattlefmt::skip]
+static LAW: Form = Form { name: LAW_NAME, about: LAW_ABOUT, words: &[WordName::Statute], options: &OPTIONS,
+    more: LAW_MORE, example: "law 2023-order", statuses: &READS };
 
-static EXPLAIN: Form = Form {
-    name: "explain",
-    about: EXPLAIN_ABOUT,
-    words: &[WordName::FaultCode],
-    options: &OPTIONS,
-    more: EXPLAIN_MORE,
-    example: "explain B15",
-    statuses: &TELLS,
-};
+#[rattlefmt::skip]
+static EXPLAIN: Form = Form { name: "explain", about: EXPLAIN_ABOUT, words: &[WordName::FaultCode], options: &OPTIONS,
+    more: EXPLAIN_MORE, example: "explain B15", statuses: &TELLS };
 
-static REPORT: Form = Form {
-    name: "report",
-    about: REPORT_ABOUT,
-    words: &[WordName::Book, WordName::Returns],
-    options: &COUNT_REPORT_OPTIONS,
-    more: REPORT_MORE,
-    example: "report @2023-order returns.csv",
-    statuses: &COUNTS,
-};
+#[rattlefmt::skip]
+static REPORT: Form = Form { name: "report", about: REPORT_ABOUT, words: &[WordName::Book, WordName::Returns], options: &COUNT_REPORT_OPTIONS,
+    more: REPORT_MORE, example: "report @2023-order returns.csv", statuses: &COUNTS };
 
-static STAGES: Form = Form {
-    name: "stages",
-    about: STAGES_ABOUT,
-    words: &[WordName::Book, WordName::Returns],
-    options: &REPORT_OPTIONS,
-    more: STAGES_MORE,
-    example: "stages @2013 returns.csv",
-    statuses: &COUNTS,
-};
+#[rattlefmt::skip]
+static STAGES: Form = Form { name: "stages", about: STAGES_ABOUT, words: &[WordName::Book, WordName::Returns], options: &REPORT_OPTIONS,
+    more: STAGES_MORE, example: "stages @2013 returns.csv", statuses: &COUNTS };
 
-static TOTALS: Form = Form {
-    name: "totals",
-    about: TOTALS_ABOUT,
-    words: &[WordName::Returns, WordName::OptionalBook],
-    options: &REPORT_OPTIONS,
-    more: TOTALS_MORE,
-    example: "totals returns.csv @2023-order",
-    statuses: &READS,
-};
+#[rattlefmt::skip]
+static TOTALS: Form = Form { name: "totals", about: TOTALS_ABOUT, words: &[WordName::Returns, WordName::OptionalBook], options: &REPORT_OPTIONS,
+    more: TOTALS_MORE, example: "totals returns.csv @2023-order", statuses: &READS };
 
-static COMPARE: Form = Form {
-    name: "compare",
-    about: COMPARE_ABOUT,
-    words: &[WordName::Returns, WordName::Books],
-    options: &COMPARE_OPTIONS,
-    more: COMPARE_MORE,
-    example: "compare returns.csv @2013 @2023-order",
-    statuses: &READS,
-};
+#[rattlefmt::skip]
+static COMPARE: Form = Form { name: "compare", about: COMPARE_ABOUT, words: &[WordName::Returns, WordName::Books], options: &COMPARE_OPTIONS,
+    more: COMPARE_MORE, example: "compare returns.csv @2013 @2023-order", statuses: &READS };
 
 /// A command by its name alone.
 #[derive(Clone, Copy)]

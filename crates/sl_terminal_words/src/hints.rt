@@ -114,7 +114,7 @@ fn about_missing(
     words: &[String],
 ) -> Result<Option<Vec<u8>>, NoMemory> {
     if let Some(message) = beside_missing(words) {
-        return Ok(Some(message.text(alloc, language, &[])?));
+        return Ok(Some(message.filled(alloc, language, &[])?));
     }
     Ok(match command_of(words) {
         Some(form) if form.name == "stage" => Some(STAGE.text(alloc, language, &[])?),
@@ -148,7 +148,7 @@ pub(crate) fn hint_of(
             Ok(Some(METHODS.text(alloc, language, &[])?))
         }
         ErrorKind::UnknownArgument => match about_options(words) {
-            Some(message) => Ok(Some(message.text(alloc, language, &[])?)),
+            Some(message) => Ok(Some(message.filled(alloc, language, &[])?)),
             None => Ok(None),
         },
         _ => Ok(None),

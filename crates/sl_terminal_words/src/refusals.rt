@@ -49,6 +49,13 @@ pub(crate) fn refusal(
     REFUSAL.text(alloc, language, &[sentence, tips, usage])
 }
 
+// A pattern before its first hole, and behind it.
+fn split_hole(pattern: &str) -> Option<(&str, &str)> {
+    let (before, rest) = pattern.split_once('{')?;
+    let (_, behind) = rest.split_once('}')?;
+    Some((before, behind))
+}
+
 // Takes the last value of a pattern, before the part that ends the text; whether the text has that part.
 fn take_last<'a>(
     values: &mut Vec<&'a [u8]>,
@@ -68,7 +75,7 @@ fn take_two<'a>(
     parts: &str,
     text: &'a str,
 ) -> Result<bool, AllocError> {
-    let Some((part, last)) = parts.split_once("$") else {
+    let Some((part, last)) = split_hole(parts) else {
         return take_last(values, parts, text);
     };
     let Some((value, rest)) = text.split_once(part) else {
@@ -84,7 +91,7 @@ fn take_three<'a>(
     parts: &str,
     text: &'a str,
 ) -> Result<bool, AllocError> {
-    let Some((part, others)) = parts.split_once("$") else {
+    let Some((part, others)) = split_hole(parts) else {
         return take_last(values, parts, text);
     };
     let Some((value, rest)) = text.split_once(part) else {
@@ -94,13 +101,13 @@ fn take_three<'a>(
     take_two(values, others, rest)
 }
 
-// The values that a text has in place of each `$` of a pattern, if it has the form of the pattern.
+// The values that a text has in the holes of a pattern, if it has the form of the pattern.
 fn values_in<'a>(
     alloc: Global,
     pattern: &str,
     text: &'a str,
 ) -> Result<Option<Vec<&'a [u8]>>, AllocError> {
-    let Some((first, parts)) = pattern.split_once("$") else {
+    let Some((first, parts)) = split_hole(pattern) else {
         return Ok(None);
     };
     let Some(rest) = text.strip_prefix(first) else {
@@ -123,7 +130,7 @@ fn translated(
 ) -> Result<Option<Vec<u8>>, NoMemory> {
     for message in messages {
         if let Some(values) = values_in(alloc, message.0, text)? {
-            return Ok(Some(message.text(alloc, language, values.as_slice())?));
+            return Ok(Some(message.filled(alloc, language, values.as_slice())?));
         }
     }
     Ok(None)

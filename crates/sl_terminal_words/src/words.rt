@@ -4,13 +4,7 @@ ghost use Rattle.std.specs.Prelude.{◌≡◌};
 ghost use Rattle.sl_terminal_words.specs.Commands.{rule_named};
 ghost use Rattle.sl_terminal_words.specs.inner.Rules.{rule_of_word};
 
-use crate::texts::words::{
-    BEFORE_HELP, BOOK_HELP, BOOKS_HELP, CODE_FILE_HELP, CSV_HELP, FAULT_CODE_HELP, FILE_VALUE,
-    FORCE_HELP, HELP_HELP, HTML_HELP, JSON_HELP, LANGUAGE_HELP, LANGUAGE_VALUE, MARKDOWN_HELP,
-    METHOD_HELP, METHOD_VALUE, NAMES_HELP, OUT_HELP, QUIET_HELP, RETURNS_HELP, SHORT_HELP,
-    STAGE_NAME_HELP, STATUTE_HELP, VERSION_HELP,
-};
-use sl_explain_texts::{LANGUAGE_WORDS, Message};
+use sl_explain_texts::Message;
 
 /// How a word is given to a command.
 #[derive(Clone, Copy)]
@@ -42,151 +36,41 @@ pub struct Word {
     pub help: Message,
 }
 
-static BOOK: Word = Word {
-    name: "BOOK",
-    given: Given::Needed,
-    help: BOOK_HELP,
-};
-
-static OPTIONAL_BOOK: Word = Word {
-    name: "BOOK",
-    given: Given::Optional,
-    help: BOOK_HELP,
-};
-
-static BOOKS: Word = Word {
-    name: "BOOK",
-    given: Given::Repeated,
-    help: BOOKS_HELP,
-};
-
-static RETURNS: Word = Word {
-    name: "RETURNS",
-    given: Given::Needed,
-    help: RETURNS_HELP,
-};
-
-static STAGE_NAME: Word = Word {
-    name: "NAME",
-    given: Given::Needed,
-    help: STAGE_NAME_HELP,
-};
-
-static OUT: Word = Word {
-    name: "OUT",
-    given: Given::Needed,
-    help: OUT_HELP,
-};
-
-static CODE_FILE: Word = Word {
-    name: "CODE",
-    given: Given::Needed,
-    help: CODE_FILE_HELP,
-};
-
-static STATUTE: Word = Word {
-    name: "NAME",
-    given: Given::Needed,
-    help: STATUTE_HELP,
-};
-
-static FAULT_CODE: Word = Word {
-    name: "CODE",
-    given: Given::Needed,
-    help: FAULT_CODE_HELP,
-};
-
-static SHORT: Word = Word {
-    name: "short",
-    given: Given::Flag(&[]),
-    help: SHORT_HELP,
-};
-
-static MARKDOWN: Word = Word {
-    name: "markdown",
-    given: Given::Flag(&[]),
-    help: MARKDOWN_HELP,
-};
-
-static HTML: Word = Word {
-    name: "html",
-    given: Given::Flag(&["markdown"]),
-    help: HTML_HELP,
-};
-
-static JSON: Word = Word {
-    name: "json",
-    given: Given::Flag(&["markdown", "html"]),
-    help: JSON_HELP,
-};
-
-static PLAIN_JSON: Word = Word {
-    name: "json",
-    given: Given::Flag(&[]),
-    help: JSON_HELP,
-};
-
-static CSV: Word = Word {
-    name: "csv",
-    given: Given::Flag(&["markdown", "html", "json"]),
-    help: CSV_HELP,
-};
-
-static BEFORE: Word = Word {
-    name: "before",
-    given: Given::Beside(FILE_VALUE, "short"),
-    help: BEFORE_HELP,
-};
-
-static METHOD: Word = Word {
-    name: "method",
-    given: Given::Choices(
-        METHOD_VALUE,
-        &["webster", "jefferson", "adams", "dean", "hill", "hamilton"],
-        "BOOK",
-    ),
-    help: METHOD_HELP,
-};
-
-static NAMES: Word = Word {
-    name: "names",
-    given: Given::Value(FILE_VALUE),
-    help: NAMES_HELP,
-};
-
-static QUIET: Word = Word {
-    name: "quiet",
-    given: Given::Letter('q'),
-    help: QUIET_HELP,
-};
-
-static LANGUAGE: Word = Word {
-    name: "lang",
-    given: Given::Choice(LANGUAGE_VALUE, &LANGUAGE_WORDS),
-    help: LANGUAGE_HELP,
-};
-
-static FORCE: Word = Word {
-    name: "force",
-    given: Given::Flag(&[]),
-    help: FORCE_HELP,
-};
-
 /// The name of the option that `clap` adds to every command, and of its command.
 pub(crate) const HELP_NAME: &str = "help";
 
-static HELP: Word = Word {
-    name: HELP_NAME,
-    given: Given::Letter('h'),
-    help: HELP_HELP,
-};
+// The words, a row each.
+#[rattlefmt::skip]
+mod rows {
+    use super::{Given, HELP_NAME, Word};
+    use crate::texts::words as texts;
+    use sl_explain_texts::LANGUAGE_WORDS;
 
-// The option that it adds to the program.
-static VERSION: Word = Word {
-    name: "version",
-    given: Given::Letter('V'),
-    help: VERSION_HELP,
-};
+    pub(super) static BOOK: Word = Word { name: "BOOK", given: Given::Needed, help: texts::BOOK_HELP };
+    pub(super) static OPTIONAL_BOOK: Word = Word { name: "BOOK", given: Given::Optional, help: texts::BOOK_HELP };
+    pub(super) static BOOKS: Word = Word { name: "BOOK", given: Given::Repeated, help: texts::BOOKS_HELP };
+    pub(super) static RETURNS: Word = Word { name: "RETURNS", given: Given::Needed, help: texts::RETURNS_HELP };
+    pub(super) static STAGE_NAME: Word = Word { name: "NAME", given: Given::Needed, help: texts::STAGE_NAME_HELP };
+    pub(super) static OUT: Word = Word { name: "OUT", given: Given::Needed, help: texts::OUT_HELP };
+    pub(super) static CODE_FILE: Word = Word { name: "CODE", given: Given::Needed, help: texts::CODE_FILE_HELP };
+    pub(super) static STATUTE: Word = Word { name: "NAME", given: Given::Needed, help: texts::STATUTE_HELP };
+    pub(super) static FAULT_CODE: Word = Word { name: "CODE", given: Given::Needed, help: texts::FAULT_CODE_HELP };
+    pub(super) static SHORT: Word = Word { name: "short", given: Given::Flag(&[]), help: texts::SHORT_HELP };
+    pub(super) static MARKDOWN: Word = Word { name: "markdown", given: Given::Flag(&[]), help: texts::MARKDOWN_HELP };
+    pub(super) static HTML: Word = Word { name: "html", given: Given::Flag(&["markdown"]), help: texts::HTML_HELP };
+    pub(super) static JSON: Word = Word { name: "json", given: Given::Flag(&["markdown", "html"]), help: texts::JSON_HELP };
+    pub(super) static PLAIN_JSON: Word = Word { name: "json", given: Given::Flag(&[]), help: texts::JSON_HELP };
+    pub(super) static CSV: Word = Word { name: "csv", given: Given::Flag(&["markdown", "html", "json"]), help: texts::CSV_HELP };
+    pub(super) static BEFORE: Word = Word { name: "before", given: Given::Beside(texts::FILE_VALUE, "short"), help: texts::BEFORE_HELP };
+    pub(super) static METHOD: Word = Word { name: "method", given: Given::Choices(texts::METHOD_VALUE, &["webster", "jefferson", "adams", "dean", "hill", "hamilton"], "BOOK"), help: texts::METHOD_HELP };
+    pub(super) static NAMES: Word = Word { name: "names", given: Given::Value(texts::FILE_VALUE), help: texts::NAMES_HELP };
+    pub(super) static QUIET: Word = Word { name: "quiet", given: Given::Letter('q'), help: texts::QUIET_HELP };
+    pub(super) static LANGUAGE: Word = Word { name: "lang", given: Given::Choice(texts::LANGUAGE_VALUE, &LANGUAGE_WORDS), help: texts::LANGUAGE_HELP };
+    pub(super) static FORCE: Word = Word { name: "force", given: Given::Flag(&[]), help: texts::FORCE_HELP };
+    pub(super) static HELP: Word = Word { name: HELP_NAME, given: Given::Letter('h'), help: texts::HELP_HELP };
+    // The option that it adds to the program.
+    pub(super) static VERSION: Word = Word { name: "version", given: Given::Letter('V'), help: texts::VERSION_HELP };
+}
 
 /// A word by its name alone.
 #[derive(Clone, Copy)]
@@ -225,29 +109,29 @@ impl WordName {
         ensures { rule_of_word result.now ≡ rule_named self }
     {
         match self {
-            WordName::Book => &BOOK,
-            WordName::OptionalBook => &OPTIONAL_BOOK,
-            WordName::Books => &BOOKS,
-            WordName::Returns => &RETURNS,
-            WordName::StageName => &STAGE_NAME,
-            WordName::Out => &OUT,
-            WordName::CodeFile => &CODE_FILE,
-            WordName::Statute => &STATUTE,
-            WordName::FaultCode => &FAULT_CODE,
-            WordName::Short => &SHORT,
-            WordName::Markdown => &MARKDOWN,
-            WordName::Html => &HTML,
-            WordName::Json => &JSON,
-            WordName::PlainJson => &PLAIN_JSON,
-            WordName::Csv => &CSV,
-            WordName::Before => &BEFORE,
-            WordName::Method => &METHOD,
-            WordName::Names => &NAMES,
-            WordName::Quiet => &QUIET,
-            WordName::Language => &LANGUAGE,
-            WordName::Force => &FORCE,
-            WordName::Help => &HELP,
-            WordName::Version => &VERSION,
+            WordName::Book => &rows::BOOK,
+            WordName::OptionalBook => &rows::OPTIONAL_BOOK,
+            WordName::Books => &rows::BOOKS,
+            WordName::Returns => &rows::RETURNS,
+            WordName::StageName => &rows::STAGE_NAME,
+            WordName::Out => &rows::OUT,
+            WordName::CodeFile => &rows::CODE_FILE,
+            WordName::Statute => &rows::STATUTE,
+            WordName::FaultCode => &rows::FAULT_CODE,
+            WordName::Short => &rows::SHORT,
+            WordName::Markdown => &rows::MARKDOWN,
+            WordName::Html => &rows::HTML,
+            WordName::Json => &rows::JSON,
+            WordName::PlainJson => &rows::PLAIN_JSON,
+            WordName::Csv => &rows::CSV,
+            WordName::Before => &rows::BEFORE,
+            WordName::Method => &rows::METHOD,
+            WordName::Names => &rows::NAMES,
+            WordName::Quiet => &rows::QUIET,
+            WordName::Language => &rows::LANGUAGE,
+            WordName::Force => &rows::FORCE,
+            WordName::Help => &rows::HELP,
+            WordName::Version => &rows::VERSION,
         }
     }
 }

@@ -1,53 +1,46 @@
 //! What to write at a place, by what may stand there.
 
+ghost use Rattle.sl_explain_texts.specs.Messages.{IsFilledBy};
+
 use crate::beginning::Sort;
-use crate::texts::grammar::{
-    AXES, BASE, BEGINNING, CLOSED, CONDITIONS, END, EXPRESSION, FORMS_LISTED, JOINED, LAW_TEXT,
-    MAJORITY, METHODS, NAME_REMEDY, NUMBER_REMEDY, OPTIONS, ORDER, PER, SEATING, STAGE,
-    STAGE_OR_SEATS,
-};
+use crate::texts::grammar as texts;
 use sl_explain_texts::Message;
 use sl_lex::{Keyword, Mark};
 
-// What to write where a token of a sort may stand. The first row that fits is said.
-static CONTEXTS: [(Sort, Message); 29] = [
-    (Sort::Keyword(Keyword::Rulebook), BEGINNING),
-    (Sort::Text, LAW_TEXT),
-    (Sort::Keyword(Keyword::Or), JOINED),
-    (Sort::Keyword(Keyword::Valid), CONDITIONS),
-    (Sort::Keyword(Keyword::Per), PER),
-    (Sort::Keyword(Keyword::At), PER),
-    (Sort::Keyword(Keyword::Least), PER),
-    (Sort::Keyword(Keyword::Counted), EXPRESSION),
-    (Sort::Keyword(Keyword::Webster), METHODS),
-    (Sort::Keyword(Keyword::Party), AXES),
-    (Sort::Keyword(Keyword::Atleast), OPTIONS),
-    (Sort::Keyword(Keyword::Majority), MAJORITY),
-    (Sort::Keyword(Keyword::Prefer), MAJORITY),
-    (Sort::Keyword(Keyword::Refuse), MAJORITY),
-    (Sort::Keyword(Keyword::Stage), STAGE_OR_SEATS),
-    (Sort::Keyword(Keyword::Keep), SEATING),
-    (Sort::Keyword(Keyword::Winners), BASE),
-    (Sort::Mark(Mark::Equals), STAGE),
-    (Sort::Keyword(Keyword::Law), ORDER),
-    (Sort::Keyword(Keyword::House), ORDER),
-    (Sort::Keyword(Keyword::Eligible), ORDER),
-    (Sort::Keyword(Keyword::Seats), ORDER),
-    (Sort::Mark(Mark::Close), CLOSED),
-    (Sort::Mark(Mark::Open), FORMS_LISTED),
-    (Sort::Mark(Mark::Comma), FORMS_LISTED),
-    (Sort::Number, NUMBER_REMEDY),
-    (Sort::Name, NAME_REMEDY),
-    (Sort::Vacate, SEATING),
-    (Sort::Mark(Mark::Semicolon), END),
-];
+// Whether a keyword may stand there.
+fn takes(sorts: &[Sort], word: Keyword) -> bool {
+    sorts.contains(&Sort::Keyword(word))
+}
 
-/// What to write where tokens of these sorts may stand.
-pub fn remedy(sorts: &[Sort]) -> &'static Message {
-    for (sort, remedy) in &CONTEXTS {
-        if sorts.contains(sort) {
-            return remedy;
-        }
+/// What to write where tokens of these sorts may stand. The first row that fits is said.
+pub fn remedy(sorts: &[Sort]) -> &'static Message
+    ensures { IsFilledBy result.now 0 }
+{
+    match () {
+        () if takes(sorts, Keyword::Rulebook) => &texts::BEGINNING,
+        () if sorts.contains(&Sort::Text) => &texts::LAW_TEXT,
+        () if takes(sorts, Keyword::Or) => &texts::JOINED,
+        () if takes(sorts, Keyword::Valid) => &texts::CONDITIONS,
+        () if takes(sorts, Keyword::Per) => &texts::PER,
+        () if takes(sorts, Keyword::At) || takes(sorts, Keyword::Least) => &texts::PER,
+        () if takes(sorts, Keyword::Counted) => &texts::EXPRESSION,
+        () if takes(sorts, Keyword::Webster) => &texts::METHODS,
+        () if takes(sorts, Keyword::Party) => &texts::AXES,
+        () if takes(sorts, Keyword::Atleast) => &texts::OPTIONS,
+        () if takes(sorts, Keyword::Majority) => &texts::MAJORITY,
+        () if takes(sorts, Keyword::Prefer) || takes(sorts, Keyword::Refuse) => &texts::MAJORITY,
+        () if takes(sorts, Keyword::Stage) => &texts::STAGE_OR_SEATS,
+        () if takes(sorts, Keyword::Keep) => &texts::SEATING,
+        () if takes(sorts, Keyword::Winners) => &texts::BASE,
+        () if sorts.contains(&Sort::Mark(Mark::Equals)) => &texts::STAGE,
+        () if takes(sorts, Keyword::Law) || takes(sorts, Keyword::House) => &texts::ORDER,
+        () if takes(sorts, Keyword::Eligible) || takes(sorts, Keyword::Seats) => &texts::ORDER,
+        () if sorts.contains(&Sort::Mark(Mark::Close)) => &texts::CLOSED,
+        () if sorts.contains(&Sort::Mark(Mark::Open)) => &texts::FORMS_LISTED,
+        () if sorts.contains(&Sort::Mark(Mark::Comma)) => &texts::FORMS_LISTED,
+        () if sorts.contains(&Sort::Number) => &texts::NUMBER_REMEDY,
+        () if sorts.contains(&Sort::Name) => &texts::NAME_REMEDY,
+        () if sorts.contains(&Sort::Vacate) => &texts::SEATING,
+        () => &texts::END,
     }
-    &END
 }

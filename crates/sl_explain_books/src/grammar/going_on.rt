@@ -30,12 +30,12 @@ fn sorts_before(
     tokens: &[Token],
     at: usize,
 ) -> Result<Vec<Sort>, NoMemory> {
-    let mut sorts = Vec::new(alloc);
-    for token in tokens.iter().take_while(|token| token.start < at) {
+    let before = tokens.iter().take_while(|token| token.start < at);
+    let sorts = before.map(|token| {
         let bytes = piece(text, span_within(text, token.start, token.end));
-        sorts.push(Sort::of(token.kind, bytes))?;
-    }
-    Ok(sorts)
+        Sort::of(token.kind, bytes)
+    });
+    Ok(sorts.collect(alloc)?)
 }
 
 // Adds a sort if a book may go on with it after the sorts before, which are left as they were.
@@ -122,11 +122,5 @@ pub fn listed(speaker: Speaker, sorts: &[Sort]) -> Result<Vec<u8>, NoMemory> {
 
 /// The words among the sorts of tokens.
 pub fn words(alloc: Global, sorts: &[Sort]) -> Result<Vec<&'static [u8]>, NoMemory> {
-    let mut words = Vec::new(alloc);
-    for sort in sorts {
-        if let Some(word) = word_of(*sort) {
-            words.push(word)?;
-        }
-    }
-    Ok(words)
+    Ok(sorts.iter().copied().filter_map(word_of).collect(alloc)?)
 }

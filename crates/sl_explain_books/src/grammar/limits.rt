@@ -1,15 +1,13 @@
 //! Books that are too long, and expressions and stages that are too many.
 
 ghost use Rattle.std.specs.Prelude.{◌≡◌, IfOk, Some};
+ghost use Rattle.sl_explain_texts.specs.Messages.{IsSaidBy};
 ghost use Rattle.sl_explain_texts.specs.declared.code.FaultCode.TheVariants.{B02, B07, B08, B09};
 
 use crate::pieces::token_span;
-use crate::texts::grammar::{
-    LONG_BOOK, LONG_BOOK_REMEDY, NO_ROOM, PARTS_REMEDY, STAGES_REMEDY, TOO_DEEP, TOO_MANY_PARTS,
-    TOO_MANY_STAGES,
-};
+use crate::texts::grammar as texts;
 use sl_base_quotients::NoMemory;
-use sl_explain_texts::{Explanation, FaultCode, Language, Message, Sentence, Span, Speaker};
+use sl_explain_texts::{Explainer, Explanation, FaultCode, Language, Sentence, Speaker};
 use sl_law_meaning::{MAX_DEPTH, MAX_PARTS, MAX_STAGES};
 use sl_lex::{Keyword, Kind, Mark, Token};
 use std::alloc::Global;
@@ -18,62 +16,41 @@ use std::alloc::Global;
 pub fn explain_long_book(alloc: Global, language: Language) -> Result<Explanation, NoMemory>
     ensures { IfOk result (λ x. x.code ≡ Some B02) }
 {
-    let speaker = Speaker { alloc, language };
-    speaker.explains(&LONG_BOOK, &[], &[&LONG_BOOK_REMEDY])
+    let explainer = Speaker { alloc, language }.says(&texts::LONG_BOOK, &[]);
+    explainer.helped(&texts::LONG_BOOK_REMEDY, &[]).finished()
 }
 
 // The level after a token, by that before it: a stage begins at level 1.
-fn level_after(kind: Kind, level: u64) -> u64 {
-    if kind == Kind::Keyword(Keyword::Stage) {
-        1
-    } else if kind == Kind::Mark(Mark::Open) {
-        level.saturating_add(1)
-    } else if kind == Kind::Mark(Mark::Close) {
-        level.saturating_sub(1)
-    } else {
-        level
+fn level_after(kind: Kind, level: usize) -> usize {
+    match kind {
+        Kind::Keyword(Keyword::Stage) => 1,
+        Kind::Mark(Mark::Open) => level.saturating_add(1),
+        Kind::Mark(Mark::Close) => level.saturating_sub(1),
+        _ => level,
     }
 }
 
 // The level of an expression at an offset: one more than there are parentheses open in its stage.
-fn level_at(tokens: &[Token], at: usize) -> u64 {
-    let mut level = 1u64;
-    for token in tokens {
-        if token.start >= at {
-            return level;
-        }
-        level = level_after(token.kind, level);
-    }
-    level
+fn level_at(tokens: &[Token], at: usize) -> usize {
+    let before = tokens.iter().take_while(|token| token.start < at);
+    before.fold(1, |level, token| level_after(token.kind, level))
 }
 
-// More of something than there may be: the sentence names the most of it.
-fn explain_most(
+// More of something than there may be: the sentence has up to two numbers.
+fn say_more(
     speaker: Speaker,
+    text: &[u8],
+    at: usize,
     sentence: &Sentence,
-    most: usize,
-    span: Span,
-    remedy: &Message,
-) -> Result<Explanation, NoMemory>
+    numbers: (usize, usize),
+) -> Result<Explainer, NoMemory>
+    requires { IsSaidBy sentence.now 2 }
     ensures { IfOk result (λ x. x.code ≡ Some sentence.now.0) }
 {
-    let most = most.to_string(speaker.alloc)?;
-    speaker.explains_at(sentence, &[most.as_bytes()], span, &[remedy])
-}
-
-// Too many levels or expressions: the sentence has two numbers of them.
-fn explain_parts(
-    speaker: Speaker,
-    sentence: &Sentence,
-    numbers: (u64, u32),
-    span: Span,
-) -> Result<Explanation, NoMemory>
-    ensures { IfOk result (λ x. x.code ≡ Some sentence.now.0) }
-{
-    let first = numbers.0.to_string(speaker.alloc)?;
-    let second = numbers.1.to_string(speaker.alloc)?;
-    let values = [first.as_bytes(), second.as_bytes()];
-    speaker.explains_at(sentence, &values, span, &[&PARTS_REMEDY])
+    let first = speaker.number(numbers.0)?;
+    let second = speaker.number(numbers.1)?;
+    let values = [first.as_slice(), second.as_slice()];
+    Ok(speaker.says_at(sentence, &values, token_span(text, at)))
 }
 
 /// An expression too many levels down, or one too many in its stage.
@@ -82,30 +59,33 @@ pub fn explain_depth(
     text: &[u8],
     tokens: &[Token],
     at: usize,
-) -> Result<Explanation, NoMemory>
+) -> Result<Explainer, NoMemory>
     ensures { IfOk result (λ x. x.code ≡ Some B08) }
 {
-    let level = level_at(tokens, at);
-    let span = token_span(text, at);
-    if level > u64::from(MAX_DEPTH) {
-        return explain_parts(speaker, &TOO_DEEP, (level, MAX_DEPTH), span);
-    }
-    let most = MAX_PARTS as usize;
-    explain_most(speaker, &TOO_MANY_PARTS, most, span, &PARTS_REMEDY)
+    let levels = (level_at(tokens, at), MAX_DEPTH as usize);
+    let (sentence, numbers) = if levels.0 > levels.1 {
+        (&texts::TOO_DEEP, levels)
+    } else {
+        (&texts::TOO_MANY_PARTS, (MAX_PARTS as usize, 0))
+    };
+    let explainer = say_more(speaker, text, at, sentence, numbers)?;
+    Ok(explainer.helped(&texts::PARTS_REMEDY, &[]))
 }
 
 /// An expression that is missing where there is no room for it.
-pub fn explain_no_room(speaker: Speaker, text: &[u8], at: usize) -> Result<Explanation, NoMemory>
+pub fn explain_no_room(speaker: Speaker, text: &[u8], at: usize) -> Result<Explainer, NoMemory>
     ensures { IfOk result (λ x. x.code ≡ Some B07) }
 {
-    let numbers = (u64::from(MAX_DEPTH), MAX_PARTS);
-    explain_parts(speaker, &NO_ROOM, numbers, token_span(text, at))
+    let numbers = (MAX_DEPTH as usize, MAX_PARTS as usize);
+    let explainer = say_more(speaker, text, at, &texts::NO_ROOM, numbers)?;
+    Ok(explainer.helped(&texts::PARTS_REMEDY, &[]))
 }
 
 /// A stage too many.
-pub fn explain_stages(speaker: Speaker, text: &[u8], at: usize) -> Result<Explanation, NoMemory>
+pub fn explain_stages(speaker: Speaker, text: &[u8], at: usize) -> Result<Explainer, NoMemory>
     ensures { IfOk result (λ x. x.code ≡ Some B09) }
 {
-    let span = token_span(text, at);
-    explain_most(speaker, &TOO_MANY_STAGES, MAX_STAGES, span, &STAGES_REMEDY)
+    let numbers = (MAX_STAGES, 0);
+    let explainer = say_more(speaker, text, at, &texts::TOO_MANY_STAGES, numbers)?;
+    Ok(explainer.helped(&texts::STAGES_REMEDY, &[]))
 }

@@ -1,8 +1,6 @@
 //! What the columns of stages and of expressions have.
 
-use crate::texts::tests::{
-    LAND_SEATS, LAND_VOTES, LIST_SEATS, LIST_VOTES, ONE_SEATS, ONE_VOTES, PARTY_SEATS, PARTY_VOTES,
-};
+use crate::texts::tests as texts;
 use sl_base_quotients::NoMemory;
 use sl_check::Columns;
 use sl_explain_texts::Speaker;
@@ -10,16 +8,16 @@ use sl_law_meaning::{ColumnType, Shape, Stage, Unit};
 use std::alloc::Global;
 
 /// What a column has, in words.
-pub fn column_words(speaker: Speaker, column: ColumnType) -> &'static [u8] {
+pub fn column_words<'a>(speaker: Speaker, column: ColumnType) -> &'a [u8] {
     speaker.word(match (column.unit, column.shape) {
-        (Unit::Seats, Shape::One) => &ONE_SEATS,
-        (Unit::Seats, Shape::Party) => &PARTY_SEATS,
-        (Unit::Seats, Shape::Land) => &LAND_SEATS,
-        (Unit::Seats, Shape::List) => &LIST_SEATS,
-        (Unit::Votes, Shape::One) => &ONE_VOTES,
-        (Unit::Votes, Shape::Party) => &PARTY_VOTES,
-        (Unit::Votes, Shape::Land) => &LAND_VOTES,
-        (Unit::Votes, Shape::List) => &LIST_VOTES,
+        (Unit::Seats, Shape::One) => &texts::ONE_SEATS,
+        (Unit::Seats, Shape::Party) => &texts::PARTY_SEATS,
+        (Unit::Seats, Shape::Land) => &texts::LAND_SEATS,
+        (Unit::Seats, Shape::List) => &texts::LIST_SEATS,
+        (Unit::Votes, Shape::One) => &texts::ONE_VOTES,
+        (Unit::Votes, Shape::Party) => &texts::PARTY_VOTES,
+        (Unit::Votes, Shape::Land) => &texts::LAND_VOTES,
+        (Unit::Votes, Shape::List) => &texts::LIST_VOTES,
     })
 }
 

@@ -2,30 +2,23 @@
 
 ghost use Rattle.std.specs.Prelude.{◌≡◌, IfOk, None, Some, map, option_map};
 ghost use Rattle.sl_explain_books.specs.Further.{stage_at};
+ghost use Rattle.sl_explain_texts.specs.Messages.{IsSaidBy};
 ghost use Rattle.sl_explain_texts.specs.declared.code.FaultCode.TheVariants.{B14, B15, B21};
 ghost use Rattle.sl_law_meaning.specs.book.Trees.{stage_of};
 
+use super::Written;
 use super::columns::{column_words, types_of};
-use crate::near::{columns_of_returns, help_nearest_stage, help_stages};
-use crate::pieces::{line_number, piece, token_span};
-use crate::texts::tests::{
-    EARLIER, FACTS, ITSELF, ITSELF_REMEDY, LAST_CLAUSE_SEATS, LATER, LATER_REMEDY, NO_EARLIER,
-    NO_SEATS, SEATS_FITTING, SEATS_SPLIT, SEATS_VOTES, TWICE, TWICE_REMEDY, UNKNOWN, UNKNOWN_BASE,
-};
+use crate::near::{columns_of_returns, help_nearest_stage, help_stages, listed};
+use crate::texts::tests as texts;
 use sl_base_quotients::NoMemory;
 use sl_check::Columns;
-use sl_explain_texts::{Explanation, FaultCode, Message, Sentence, Span, Speaker};
+use sl_explain_texts::{Explainer, Sentence, Speaker};
 use sl_law_meaning::{Base, Book, ColumnType, Shape, Stage, Unit};
-
-// How many stages begin before an offset.
-fn stages_before(stages: &[Stage], at: usize) -> usize {
-    stages.iter().take_while(|stage| stage.at <= at).count()
-}
 
 /// The stages above the one in which an offset lies.
 pub fn above(stages: &[Stage], at: usize) -> &[Stage] {
-    let count = stages_before(stages, at).saturating_sub(1);
-    stages.get(..count).unwrap_or(&[])
+    let begun = stages.iter().take_while(|stage| stage.at <= at).count();
+    stages.get(..begun.saturating_sub(1)).unwrap_or(&[])
 }
 
 /// The stage in which an offset lies: the last of those that begin no later.
@@ -43,165 +36,87 @@ pub fn around(stages: &[Stage], at: usize) -> Option<&Stage>
 
 /// The first stage of a name.
 pub fn named<'a>(stages: &'a [Stage], name: &[u8]) -> Option<&'a Stage> {
-    for stage in stages {
-        if stage.name.as_bytes() == name {
-            return Some(stage);
-        }
-    }
-    None
+    stages.iter().find(|stage| stage.name.as_bytes() == name)
 }
 
 /// Two stages of one name, the second of them at an offset.
-pub fn explain_twice(
-    speaker: Speaker,
-    text: &[u8],
-    book: &Book,
-    at: usize,
-) -> Result<Explanation, NoMemory>
+pub fn explain_twice(written: &Written<'_>, at: usize) -> Result<Explainer, NoMemory>
     ensures { IfOk result (λ x. x.code ≡ Some B14) }
 {
-    let span = token_span(text, at);
-    let name = piece(text, span);
-    let first = match named(book.stages.as_slice(), name) {
-        Some(stage) => stage.at,
-        None => at,
-    };
-    let line = line_number(text, first);
-    explain_line(speaker, &TWICE, name, line, span, &TWICE_REMEDY)
+    let name = written.token(at);
+    let first = named(written.stages(), name).map_or(at, |stage| stage.at);
+    let line = written.line(first)?;
+    let explainer = written.says(&texts::TWICE, &[name, line.as_slice()], at);
+    Ok(explainer.helped(&texts::TWICE_REMEDY, &[]))
 }
 
-// A sentence on a stage and the line in which it stands, with the remedy.
-fn explain_line(
-    speaker: Speaker,
+// A name that none of these stages and of these columns has. Asks whether one that is near is meant, and says which stages there are.
+fn explain_no_name(
+    written: &Written<'_>,
+    at: usize,
     sentence: &Sentence,
-    name: &[u8],
-    line: usize,
-    span: Span,
-    remedy: &Message,
-) -> Result<Explanation, NoMemory>
+    stages: &[Stage],
+    columns: &[&'static [u8]],
+) -> Result<Explainer, NoMemory>
+    requires { IsSaidBy sentence.now 1 }
     ensures { IfOk result (λ x. x.code ≡ Some sentence.now.0) }
 {
-    let line = line.to_string(speaker.alloc)?;
-    speaker.explains_at(sentence, &[name, line.as_bytes()], span, &[remedy])
+    let name = written.token(at);
+    let mut explainer = written.says(sentence, &[name], at);
+    help_nearest_stage(&mut explainer, name, stages, columns)?;
+    help_stages(&mut explainer, stages, &texts::EARLIER, &texts::NO_EARLIER);
+    Ok(explainer)
 }
 
-// The last clause names a stage that does not exist. Asks whether a name that is near is meant, and says which stages there are.
-fn explain_base(
-    speaker: Speaker,
-    name: &[u8],
-    span: Span,
-    stages: &[Stage],
-) -> Result<Explanation, NoMemory>
+// A name that is no stage above and no column. Says which columns there are, too.
+fn explain_no_column(written: &Written<'_>, at: usize) -> Result<Explainer, NoMemory>
     ensures { IfOk result (λ x. x.code ≡ Some B15) }
 {
-    let mut explanation = speaker.says_at(&UNKNOWN_BASE, &[name], span)?;
-    help_nearest_stage(speaker, &mut explanation, name, stages, &[])?;
-    help_stages(speaker, &mut explanation, stages, &EARLIER, &NO_EARLIER)?;
-    Ok(explanation)
-}
-
-// Says which columns the returns have.
-fn help_columns(
-    speaker: Speaker,
-    explanation: &mut Explanation,
-    columns: &[&'static [u8]],
-) -> Result<(), NoMemory>
-    ensures { explanation.new.code ≡ explanation.old.code }
-{
-    let mut names = Vec::new(speaker.alloc);
-    for column in columns {
-        names.push(speaker.quoted(column)?)?;
-    }
-    let list = speaker.all_of(names.as_slice())?;
-    speaker.helps(explanation, &FACTS, &[list.as_slice()])
-}
-
-// A name that is none of these stages and no column. Asks whether a name that is near is meant, and says which stages stand above, and which
-// columns there are.
-fn explain_no_name(
-    speaker: Speaker,
-    name: &[u8],
-    span: Span,
-    stages: &[Stage],
-) -> Result<Explanation, NoMemory>
-    ensures { IfOk result (λ x. x.code ≡ Some B15) }
-{
-    let columns = columns_of_returns(speaker.alloc)?;
-    let mut explanation = speaker.says_at(&UNKNOWN, &[name], span)?;
-    help_nearest_stage(speaker, &mut explanation, name, stages, columns.as_slice())?;
-    help_stages(speaker, &mut explanation, stages, &EARLIER, &NO_EARLIER)?;
-    help_columns(speaker, &mut explanation, columns.as_slice())?;
-    Ok(explanation)
+    let columns = columns_of_returns(written.speaker.alloc)?;
+    let columns = columns.as_slice();
+    let stages = above(written.stages(), at);
+    let mut explainer = explain_no_name(written, at, &texts::UNKNOWN, stages, columns)?;
+    explainer.helps_with(&texts::FACTS, listed(written.speaker, columns));
+    Ok(explainer)
 }
 
 // A stage is named that stands further down, or is the one in whose expression it is named.
-fn explain_order(
-    speaker: Speaker,
-    text: &[u8],
-    stage: &Stage,
-    at: usize,
-) -> Result<Explanation, NoMemory>
+fn explain_order(written: &Written<'_>, stage: &Stage, at: usize) -> Result<Explainer, NoMemory>
     ensures { IfOk result (λ x. x.code ≡ Some B15) }
 {
     let name = stage.name.as_bytes();
-    let span = token_span(text, at);
-    let line = line_number(text, stage.at);
     if stage.at < at {
-        explain_line(speaker, &ITSELF, name, line, span, &ITSELF_REMEDY)
-    } else {
-        explain_line(speaker, &LATER, name, line, span, &LATER_REMEDY)
+        let explainer = written.says(&texts::ITSELF, &[name], at);
+        return Ok(explainer.helped(&texts::ITSELF_REMEDY, &[]));
     }
+    let line = written.line(stage.at)?;
+    let explainer = written.says(&texts::LATER, &[name, line.as_slice()], at);
+    Ok(explainer.helped(&texts::LATER_REMEDY, &[]))
 }
 
 /// A stage is named that does not exist, or that does not stand above.
-pub fn explain_unknown(
-    speaker: Speaker,
-    text: &[u8],
-    book: &Book,
-    at: usize,
-) -> Result<Explanation, NoMemory>
+pub fn explain_unknown(written: &Written<'_>, at: usize) -> Result<Explainer, NoMemory>
     ensures { IfOk result (λ x. x.code ≡ Some B15) }
 {
-    let stages = book.stages.as_slice();
-    let span = token_span(text, at);
-    let name = piece(text, span);
-    if at == book.last.at {
-        return explain_base(speaker, name, span, stages);
+    let stages = written.stages();
+    if at == written.book.last.at {
+        return explain_no_name(written, at, &texts::UNKNOWN_BASE, stages, &[]);
     }
-    match named(stages, name) {
-        Some(stage) => explain_order(speaker, text, stage, at),
-        None => explain_no_name(speaker, name, span, above(stages, at)),
+    match named(stages, written.token(at)) {
+        Some(stage) => explain_order(written, stage, at),
+        None => explain_no_column(written, at),
     }
 }
 
 // The names of the stages that have seats for each list, in a row; empty where there is none.
 fn fitting(speaker: Speaker, stages: &[Stage], types: &[ColumnType]) -> Result<Vec<u8>, NoMemory> {
-    let mut names = Vec::new(speaker.alloc);
+    let mut names: Vec<&[u8]> = Vec::new(speaker.alloc);
     for (stage, column) in stages.iter().zip(types) {
         if *column == ColumnType::seats(Shape::List) {
-            names.push(speaker.quoted(stage.name.as_bytes())?)?;
+            names.push(stage.name.as_bytes())?;
         }
     }
-    speaker.all_of(names.as_slice())
-}
-
-// What to do about a stage that has no seats for each list: name one that has, or make one.
-fn help_seats(
-    speaker: Speaker,
-    explanation: &mut Explanation,
-    name: &[u8],
-    unit: Unit,
-    fitting: &[u8],
-) -> Result<(), NoMemory>
-    ensures { explanation.new.code ≡ explanation.old.code }
-{
-    if !fitting.is_empty() {
-        return speaker.helps(explanation, &SEATS_FITTING, &[fitting]);
-    }
-    match unit {
-        Unit::Seats => speaker.helps(explanation, &SEATS_SPLIT, &[name]),
-        Unit::Votes => speaker.helps(explanation, &SEATS_VOTES, &[]),
-    }
+    listed(speaker, names.as_slice())
 }
 
 // What the column of the stage that the last clause names has.
@@ -212,49 +127,22 @@ fn base_column(book: &Book, types: &[ColumnType]) -> Option<ColumnType> {
     }
 }
 
-// What the stage that the last clause names has.
-fn say_column<'a>(
-    speaker: Speaker,
-    name: &'a [u8],
-    words: &'a [u8],
-    span: Span,
-) -> Result<Explanation, NoMemory>
+/// The last clause names a stage that has no seats for each list. Says which stages have them, or how to make one.
+pub fn explain_seats(written: &Written<'_>, at: usize) -> Result<Explainer, NoMemory>
     ensures { IfOk result (λ x. x.code ≡ Some B21) }
 {
-    speaker.says_at(&LAST_CLAUSE_SEATS, &[name, words], span)
-}
-
-// The last clause names a stage that has this column.
-fn explain_column(
-    speaker: Speaker,
-    name: &[u8],
-    span: Span,
-    column: ColumnType,
-    fitting: &[u8],
-) -> Result<Explanation, NoMemory>
-    ensures { IfOk result (λ x. x.code ≡ Some B21) }
-{
-    let mut explanation = say_column(speaker, name, column_words(speaker, column), span)?;
-    help_seats(speaker, &mut explanation, name, column.unit, fitting)?;
-    Ok(explanation)
-}
-
-/// The last clause names a stage that has no seats for each list.
-pub fn explain_seats(
-    speaker: Speaker,
-    text: &[u8],
-    book: &Book,
-    at: usize,
-) -> Result<Explanation, NoMemory>
-    ensures { IfOk result (λ x. x.code ≡ Some B21) }
-{
-    let span = token_span(text, at);
-    let name = piece(text, span);
-    let stages = book.stages.as_slice();
-    let types = types_of(speaker.alloc, stages)?;
-    let fitting = fitting(speaker, stages, types.as_slice())?;
-    match base_column(book, types.as_slice()) {
-        Some(column) => explain_column(speaker, name, span, column, fitting.as_slice()),
-        None => speaker.says_at(&NO_SEATS, &[name], span),
-    }
+    let speaker = written.speaker;
+    let name = written.token(at);
+    let types = types_of(speaker.alloc, written.stages())?;
+    let fitting = fitting(speaker, written.stages(), types.as_slice())?;
+    let Some(column) = base_column(written.book, types.as_slice()) else {
+        return Ok(written.says(&texts::NO_SEATS, &[name], at));
+    };
+    let values = [name, column_words(speaker, column)];
+    let explainer = written.says(&texts::LAST_CLAUSE_SEATS, &values, at);
+    Ok(match column.unit {
+        _ if !fitting.is_empty() => explainer.helped(&texts::SEATS_FITTING, &[fitting.as_slice()]),
+        Unit::Seats => explainer.helped(&texts::SEATS_SPLIT, &[name]),
+        Unit::Votes => explainer.helped(&texts::SEATS_VOTES, &[]),
+    })
 }

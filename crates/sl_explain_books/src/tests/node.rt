@@ -33,6 +33,17 @@ pub enum Node {
     Division(Division),
 }
 
+impl Node {
+    /// The offsets of its two arguments, if it has two.
+    pub fn places(self) -> Option<(usize, usize)> {
+        match self {
+            Node::Sum { .. } => None,
+            Node::Pair { places, .. } => Some(places),
+            Node::Division(division) => Some(division.places),
+        }
+    }
+}
+
 // A pair of columns, by its arguments.
 fn typed_pair(columns: &Columns<'_>, pairing: Pairing, left: &Expr, right: &Expr) -> Option<Node> {
     Some(Node::Pair {

@@ -1,18 +1,15 @@
 //! Characters that begin no token, and those that a text in quotes may not have.
 
 ghost use Rattle.std.specs.Prelude.{◌≡◌, IfOk, Some};
+ghost use Rattle.sl_explain_texts.specs.Messages.{IsFilledBy};
 ghost use Rattle.sl_explain_texts.specs.declared.code.FaultCode.TheVariants.{B03, B04};
 
 use crate::meant::method_of;
 use crate::pieces::{character_len, piece, span_within};
 use crate::texts::meant::METHOD;
-use crate::texts::tokens::{
-    ARITHMETIC, AT_SIGN, BLANK, BRACKETS, BYTE_IN_TEXT, COLON, COMMENT, COMPARED, CONTROL,
-    ENCODING, HYPHEN, IN_TEXT, INVISIBLE, LETTER, NO_CHARACTER, NO_LETTER, PERCENT, PLAIN, POINT,
-    QUOTES, RIGHT_FILE, TEXT_LETTER, TEXT_PLAIN, UNDERSCORE, UNEXPECTED,
-};
+use crate::texts::tokens as texts;
 use sl_base_quotients::NoMemory;
-use sl_explain_texts::{Explanation, FaultCode, Message, Sentence, Span, Speaker};
+use sl_explain_texts::{Explainer, Message, Span, Speaker};
 
 // The letters that stand just before an offset.
 fn letters_before(text: &[u8], at: usize) -> &[u8] {
@@ -36,22 +33,24 @@ fn parted_method(text: &[u8], at: usize) -> Option<&'static [u8]> {
 }
 
 // What to do about a character of ASCII.
-fn ascii_remedy(byte: u8, next: u8, at: usize) -> &'static Message {
+fn ascii_remedy(byte: u8, next: u8, at: usize) -> &'static Message
+    ensures { IsFilledBy result.now 0 }
+{
     match byte {
-        b'<' | b'>' | b'{' | b'[' | b'%' | b'.' if at == 0 => &RIGHT_FILE,
-        b'%' => &PERCENT,
-        b'.' => &POINT,
-        b'/' if next == b'/' || next == b'*' => &COMMENT,
-        b'-' if next == b'-' => &COMMENT,
-        b'-' => &HYPHEN,
-        b'/' | b'*' | b'+' | b'^' => &ARITHMETIC,
-        b'\'' | b'`' => &QUOTES,
-        b'<' | b'>' => &COMPARED,
-        b':' => &COLON,
-        b'[' | b']' | b'{' | b'}' => &BRACKETS,
-        b'_' => &UNDERSCORE,
-        b'@' => &AT_SIGN,
-        _ => &PLAIN,
+        b'<' | b'>' | b'{' | b'[' | b'%' | b'.' if at == 0 => &texts::RIGHT_FILE,
+        b'%' => &texts::PERCENT,
+        b'.' => &texts::POINT,
+        b'/' if next == b'/' || next == b'*' => &texts::COMMENT,
+        b'-' if next == b'-' => &texts::COMMENT,
+        b'-' => &texts::HYPHEN,
+        b'/' | b'*' | b'+' | b'^' => &texts::ARITHMETIC,
+        b'\'' | b'`' => &texts::QUOTES,
+        b'<' | b'>' => &texts::COMPARED,
+        b':' => &texts::COLON,
+        b'[' | b']' | b'{' | b'}' => &texts::BRACKETS,
+        b'_' => &texts::UNDERSCORE,
+        b'@' => &texts::AT_SIGN,
+        _ => &texts::PLAIN,
     }
 }
 
@@ -82,53 +81,26 @@ fn is_dash(character: &[u8]) -> bool {
     matches!(character, [0xE2, 0x80, 0x90..=0x95] | [0xE2, 0x88, 0x92])
 }
 
-// What to do about a character above ASCII that is no blank.
-fn wide_remedy(character: &[u8]) -> &'static Message {
-    if is_curly(character) {
-        &QUOTES
-    } else if is_dash(character) {
-        &HYPHEN
-    } else {
-        &LETTER
-    }
-}
-
-// A sentence on a character, with the remedy.
-fn explain_shown(
-    speaker: Speaker,
-    sentence: &Sentence,
-    character: &[u8],
-    span: Span,
-    remedy: &Message,
-) -> Result<Explanation, NoMemory>
-    ensures { IfOk result (λ x. x.code ≡ Some sentence.now.0) }
-{
-    let shown = speaker.shown(character)?;
-    speaker.explains_at(sentence, &[shown.as_slice()], span, &[remedy])
-}
-
 // A character above ASCII.
-fn explain_wide(speaker: Speaker, character: &[u8], span: Span) -> Result<Explanation, NoMemory>
-    ensures { IfOk result (λ x. x.code ≡ Some B03) }
+fn explain_wide(speaker: Speaker, character: &[u8], span: Span) -> Explainer
+    ensures { result.code ≡ Some B03 }
 {
-    if is_special_blank(character) {
-        return speaker.explains_at(&INVISIBLE, &[], span, &[&BLANK]);
-    }
-    explain_shown(speaker, &NO_LETTER, character, span, wide_remedy(character))
+    let (sentence, remedy) = if is_special_blank(character) {
+        (&texts::INVISIBLE, &texts::BLANK)
+    } else if is_curly(character) {
+        (&texts::NO_LETTER, &texts::QUOTES)
+    } else if is_dash(character) {
+        (&texts::NO_LETTER, &texts::HYPHEN)
+    } else {
+        (&texts::NO_LETTER, &texts::LETTER)
+    };
+    let explainer = speaker.says_at(sentence, &[character], span);
+    explainer.helped(remedy, &[])
 }
 
-// A byte that is shown by its number.
-fn explain_byte(
-    speaker: Speaker,
-    sentence: &Sentence,
-    byte: u8,
-    span: Span,
-    remedy: &Message,
-) -> Result<Explanation, NoMemory>
-    ensures { IfOk result (λ x. x.code ≡ Some sentence.now.0) }
-{
-    let number = format!(in speaker.alloc; "0x{byte:02x}")?;
-    speaker.explains_at(sentence, &[number.as_bytes()], span, &[remedy])
+// The number of a byte, as it is shown.
+fn number_of(speaker: Speaker, byte: u8) -> Result<Vec<u8>, NoMemory> {
+    Ok(format!(in speaker.alloc; "0x{byte:02x}")?.into_bytes())
 }
 
 // The character at an offset.
@@ -141,64 +113,62 @@ fn byte_at(text: &[u8], at: usize) -> u8 {
     text.get(at).copied().unwrap_or(0)
 }
 
-// Says what to do about a character of ASCII at an offset.
-fn help_ascii(
-    speaker: Speaker,
-    explanation: &mut Explanation,
-    text: &[u8],
-    at: usize,
-    byte: u8,
-) -> Result<(), NoMemory>
-    ensures { explanation.new.code ≡ explanation.old.code }
+// A character of ASCII that is shown as it is.
+fn explain_ascii(speaker: Speaker, text: &[u8], at: usize, span: Span) -> Explainer
+    ensures { result.code ≡ Some B03 }
 {
+    let explainer = speaker.says_at(&texts::UNEXPECTED, &[piece(text, span)], span);
+    let next = byte_at(text, at.saturating_add(1));
     match parted_method(text, at) {
-        Some(method) => speaker.helps(explanation, &METHOD, &[method]),
-        None => {
-            let next = byte_at(text, at.saturating_add(1));
-            speaker.helps(explanation, ascii_remedy(byte, next, at), &[])
-        }
+        Some(method) => explainer.helped(&METHOD, &[method]),
+        None => explainer.helped(ascii_remedy(byte_at(text, at), next, at), &[]),
     }
 }
 
 /// Explains the character at an offset, which no token begins with.
-pub fn explain_character(speaker: Speaker, text: &[u8], at: usize) -> Result<Explanation, NoMemory>
+pub fn explain_character(speaker: Speaker, text: &[u8], at: usize) -> Result<Explainer, NoMemory>
     ensures { IfOk result (λ x. x.code ≡ Some B03) }
 {
     let span = character_span(text, at);
     let character = piece(text, span);
     if character.len() > 1 {
-        return explain_wide(speaker, character, span);
+        return Ok(explain_wide(speaker, character, span));
     }
-    match byte_at(text, at) {
-        byte @ 0x80.. => explain_byte(speaker, &NO_CHARACTER, byte, span, &ENCODING),
-        byte @ (0..=0x1F | 0x7F) => explain_byte(speaker, &CONTROL, byte, span, &PLAIN),
-        byte => {
-            let mut explanation = speaker.says_at(&UNEXPECTED, &[character], span)?;
-            help_ascii(speaker, &mut explanation, text, at, byte)?;
-            Ok(explanation)
-        }
-    }
-}
-
-// What to do about a character above ASCII in a text in quotes.
-fn text_remedy(character: &[u8]) -> &'static Message {
-    if is_curly(character) {
-        &QUOTES
-    } else {
-        &TEXT_LETTER
-    }
+    let byte = byte_at(text, at);
+    let number = number_of(speaker, byte)?;
+    Ok(match byte {
+        0x80.. => speaker
+            .says_at(&texts::NO_CHARACTER, &[number.as_slice()], span)
+            .helped(&texts::ENCODING, &[]),
+        0..=0x1F | 0x7F => speaker
+            .says_at(&texts::CONTROL, &[number.as_slice()], span)
+            .helped(&texts::PLAIN, &[]),
+        _ => explain_ascii(speaker, text, at, span),
+    })
 }
 
 /// Explains the character at an offset, which a text in quotes may not have.
-pub fn explain_in_text(speaker: Speaker, text: &[u8], at: usize) -> Result<Explanation, NoMemory>
+pub fn explain_in_text(speaker: Speaker, text: &[u8], at: usize) -> Result<Explainer, NoMemory>
     ensures { IfOk result (λ x. x.code ≡ Some B04) }
 {
     let span = character_span(text, at);
     let character = piece(text, span);
     if character.len() > 1 {
-        return explain_shown(speaker, &IN_TEXT, character, span, text_remedy(character));
+        let remedy = if is_curly(character) {
+            &texts::QUOTES
+        } else {
+            &texts::TEXT_LETTER
+        };
+        let explainer = speaker.says_at(&texts::IN_TEXT, &[character], span);
+        return Ok(explainer.helped(remedy, &[]));
     }
     let byte = byte_at(text, at);
-    let remedy = if byte < 0x80 { &TEXT_PLAIN } else { &ENCODING };
-    explain_byte(speaker, &BYTE_IN_TEXT, byte, span, remedy)
+    let remedy = if byte < 0x80 {
+        &texts::TEXT_PLAIN
+    } else {
+        &texts::ENCODING
+    };
+    let number = number_of(speaker, byte)?;
+    let explainer = speaker.says_at(&texts::BYTE_IN_TEXT, &[number.as_slice()], span);
+    Ok(explainer.helped(remedy, &[]))
 }

@@ -1,9 +1,10 @@
-use Rattle.std.proofs.Common.{ℕ, ◌+◌, List, [], Some, arith, map, string_bytes, subst, sym, take, zip}
+use Rattle.std.proofs.Common.{ℕ, ◌+◌, List, [], Some, arith, map, subst, sym, take, zip}
 use Rattle.std.proofs.lemmas.Grind.{common_steps}
 use Rattle.std.proofs.lemmas.List.{take_all}
 use Rattle.std.proofs.lemmas.Result.{IfOk-weaker}
 use Rattle.serde_json.specs.Data.{Data}
 use Rattle.serde_json.specs.View.{view}
+use Rattle.sl_report_forms.specs.Heads.{head_key}
 use Rattle.sl_report_forms.specs.JsonForm.{Puts, cell_value}
 use Rattle.sl_report_forms.specs.declared.cell.Cell.{Cell}
 use Rattle.sl_report_forms.specs.declared.names.Names.{Names}
@@ -14,7 +15,7 @@ use Rattle.sl_report_forms.proofs.json_form.row_value.Goals.{in-Some, in_default
 use Rattle.sl_report_forms.proofs.json_form.row_value.Goals as goal
 
 abbrev members_of : Names → List (Head × Cell) → List (List ℕ × Data)
-members_of names cells = map (λ p. (string_bytes p.0.key, cell_value names p.1)) cells
+members_of names cells = map (λ p. (head_key p.0, cell_value names p.1)) cells
 
 pub loop-place-preserved : goal.loop-place-preserved
 loop-place-preserved c =

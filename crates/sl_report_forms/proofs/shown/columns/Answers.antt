@@ -1,6 +1,6 @@
-use Rattle.std.proofs.Common.{◌∙◌, ◌+◌, subst, sym, take}
+use Rattle.std.proofs.Common.{◌≡◌, ◌∙◌, ◌+◌, false, subst, sym, take}
 use Rattle.sl_report_forms.specs.Shown.{is_shown}
-use Rattle.sl_report_forms.proofs.ShownSteps.{Found, found_more, found_same}
+use Rattle.sl_report_forms.proofs.ShownSteps.{Found, found_by, found_same}
 use Rattle.sl_report_forms.proofs.shown.columns.Goals as goal
 use Rattle.sl_report_forms.proofs.shown.columns.Goals.{then-is_shown, else-is_shown}
 
@@ -13,8 +13,9 @@ loop-place-preserved c =
     elim c.if-is_shown.branch [
       | then-is_shown w ↦
           subst (Found p (take (i + 1) heads)) (sym w.columns-is) (
-          found_more p heads i h c.loop-place-test.true c.head-item.is _ _ (sym c.is_shown.ensures ∙ w.if-is_shown.true) w.push.ensures c.loop-place.invariant)
+          found_by p heads i h c.loop-place-test.true c.head-item.is _ c.place_of-column.ensures _ _ (sym c.is_shown.ensures ∙ w.if-is_shown.true) w.push.ensures c.loop-place.invariant)
       | else-is_shown w ↦
           subst (Found p (take (i + 1) heads)) (sym w.columns-is) (
-          found_same p heads i h c.loop-place-test.true c.head-item.is _ (sym c.is_shown.ensures ∙ w.if-is_shown.false) c.loop-place.invariant)
+          found_same p heads i h c.loop-place-test.true c.head-item.is _
+          (subst (λ column. p column ≡ false) c.place_of-column.ensures (sym c.is_shown.ensures ∙ w.if-is_shown.false)) c.loop-place.invariant)
     ]

@@ -13,11 +13,11 @@ loop-column-preserved c =
     let i = c.loop-column.column-index in
     elim c.match-get.branch [
       | in-Some w ↦
-          subst (λ o. IfSome o (λ ts. map string_bytes ts ≡ texts_in names (take (i + 1) columns) row)) (sym w.texts-is) (
+          subst (λ o. IfSome o (λ ts. map string_bytes ts ≡ texts_in c.args.language names (take (i + 1) columns) row)) (sym w.texts-is) (
           gain_more string_bytes _ _ _ _ _ _ w.push.ensures w.text.ensures c.loop-column.invariant
-          (told_more (shown_text names) row columns i _ c.get.result w.in-Some.cell c.loop-column-test.true c.get.ensures.lookup w.in-Some.is))
+          (told_more (shown_text c.args.language names) row columns i _ c.get.result w.in-Some.cell c.loop-column-test.true c.get.ensures.lookup w.in-Some.is))
       | in_default w ↦
-          subst (λ o. IfSome o (λ ts. map string_bytes ts ≡ texts_in names (take (i + 1) columns) row)) (sym w.texts-is) (
+          subst (λ o. IfSome o (λ ts. map string_bytes ts ≡ texts_in c.args.language names (take (i + 1) columns) row)) (sym w.texts-is) (
           same_items string_bytes _ _ _ c.loop-column.invariant
-          (told_same (shown_text names) row columns i _ c.get.result c.loop-column-test.true c.get.ensures.lookup w.in_default.is))
+          (told_same (shown_text c.args.language names) row columns i _ c.get.result c.loop-column-test.true c.get.ensures.lookup w.in_default.is))
     ]

@@ -3,7 +3,7 @@ use Rattle.std.specs.Fmt.{decimal}
 use Rattle.sl_explain_texts.specs.Languages.{in_language}
 use Rattle.sl_explain_texts.specs.declared.language.Language.TheVariants.{English, German}
 use Rattle.sl_explain_texts.specs.declared.language.Language.{Language}
-use Rattle.sl_explain_texts.specs.declared.language.Message.{Message}
+use Rattle.sl_explain_texts.specs.declared.message.Message.{Message}
 use Rattle.sl_report_forms.specs.NameTexts.{word_of}
 use Rattle.sl_report_forms.proofs.words.condition_text.Goals as goal
 

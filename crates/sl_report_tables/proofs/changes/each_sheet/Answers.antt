@@ -1,15 +1,13 @@
-use Rattle.std.proofs.Common.{ap, map, sym, ◌∙◌, ◌≡◌, Some}
-use Rattle.std.specs.Prelude.{List, slice_get}
-use Rattle.sl_report_forms.specs.Cells.{Content}
-use Rattle.sl_report_tables.specs.declared.compare.Judged.{Judged}
+use Rattle.std.proofs.Common.{ap, map, ◌∙◌}
 use Rattle.std.specs.List.{flat_map}
-use Rattle.std.proofs.lemmas.Option.{slice_get-get_or}
-use Rattle.sl_report_forms.specs.Tables.{table_of, with_rows}
-use Rattle.sl_report_tables.proofs.ComparedRows.{each_seats}
-use Rattle.sl_report_tables.proofs.MoreTables.{and_equal}
-use Rattle.sl_report_tables.proofs.SeatedBooks.{first_book}
-use Rattle.sl_report_tables.specs.Compare.{compared, seats_row, seats_table}
-use Rattle.sl_report_tables.specs.inner.Seated.{books_of}
+use Rattle.std.specs.Prelude.{List}
+use Rattle.sl_report_forms.specs.Cells.{Content}
+use Rattle.sl_report_forms.specs.Tables.{with_rows}
+use Rattle.sl_report_tables.proofs.ComparedRows.{blank_seats, each_seats}
+use Rattle.sl_report_tables.proofs.MoreRows.{rows_end}
+use Rattle.sl_report_tables.proofs.SeatedBooks.{first_book, pieces_of_books}
+use Rattle.sl_report_tables.specs.Compare.{compared, seats_row}
+use Rattle.sl_report_tables.specs.declared.compare.Judged.{Judged}
 use Rattle.sl_report_tables.proofs.changes.each_sheet.Goals as goal
 
 pub returns : goal.returns
@@ -18,8 +16,7 @@ returns c =
     let books = c.args.books.now in
     let seated = c.args.seated.now in
     let first = c.in-Some.first.now in
-    let at : slice_get seated 0 ≡ Some first = slice_get-get_or seated 0 first c.in-Some.ensures.item.3.0 ∙ ap Some (sym c.in-Some.ensures.item.1) in
-    let rows : List Judged → List (List Content) = λ js. flat_map (λ j. map (seats_row e first.judged.now j) (compared e)) js in
-    and_equal table_of c.push_books.result c.push_books.new.sheet (with_rows (table_of c.in_ok-sheet.sheet) (rows (books_of seated))) (seats_table e books) c.and.ensures c.push_books.ensures
-    (ap (λ js. with_rows (table_of c.in_ok-sheet.sheet) (rows js)) c.requires.books ∙ ap (λ t. with_rows t (rows books)) c.in_ok-sheet.ensures
-    ∙ each_seats e first.judged.now books (first_book books seated first c.requires.books at))
+    let rows : Judged → List (List Content) = λ j. map (seats_row e first.judged.now j) (compared e) in
+    rows_end (flat_map (λ x. rows x.judged.now)) seated c.loop-book.book-index _ _ _ c.loop-book-test.false c.in_ok-sheet.ensures c.loop-book.invariant
+    ∙ ap (with_rows blank_seats) (pieces_of_books rows seated ∙ ap (flat_map rows) c.requires.books)
+    ∙ each_seats e first.judged.now books (first_book books seated first c.requires.books c.in-Some.ensures.item.3.0 c.in-Some.ensures.item.1)

@@ -8,7 +8,7 @@ pub loop-entry-preserved : goal.loop-entry-preserved
 loop-entry-preserved c =
     let entries = c.deref-entry-items.result.now in
     rows_next (entry_row c.args.scoped.now) entries c.loop-entry.entry-index _ _ _ _
-    (slice_get-get_or entries c.loop-entry.entry-index _ c.loop-entry-test.true) c.loop-entry.invariant c.in_ok-push_entry.ensures
+    (slice_get-get_or entries c.loop-entry.entry-index _ c.loop-entry-test.true) c.loop-entry.invariant (rw c.in_ok-entry_row.ensures at c.in_ok-push.ensures)
 
 pub returns : goal.returns
 returns c =

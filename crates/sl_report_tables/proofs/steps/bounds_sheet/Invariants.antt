@@ -1,7 +1,7 @@
-use Rattle.std.proofs.Common.{map, take, ◌≡◌}
-use Rattle.sl_report_forms.specs.Tables.{table_of, with_rows}
-use Rattle.sl_report_tables.specs.Steps.{bounds_row}
+use Rattle.std.proofs.Common.{take, ◌≡◌}
+use Rattle.sl_report_forms.specs.Tables.{table_of}
+use Rattle.sl_report_tables.specs.Steps.{bounds_table}
 use Rattle.sl_report_tables.proofs.steps.bounds_sheet.Given as goal
 
 abbrev pub invariant-loop-bounds : goal.invariant-loop-bounds
-invariant-loop-bounds l = table_of l.sheet ≡ with_rows (table_of l.initial.sheet) (map bounds_row (take l.bounds-index l.found))
+invariant-loop-bounds l = table_of l.sheet ≡ bounds_table (take l.bounds-index l.found)

@@ -7,4 +7,4 @@ use Rattle.sl_report_tables.proofs.totals.push_winners.Given as goal
 abbrev pub invariant-loop-party : goal.invariant-loop-party
 invariant-loop-party l =
     table_of l.sheet
-    ≡ with_rows (table_of l.initial.sheet) (map (won_row l.returns l.land) (filter (λ party. nat_lt 0 (won_at l.returns l.land party)) (range_with_len 0 l.party)))
+    ≡ with_rows (table_of l.initial.sheet) (map (won_row l.counts.returns.now l.land) (filter (λ party. nat_lt 0 (won_at l.counts.returns.now l.land party)) (range_with_len 0 l.party)))

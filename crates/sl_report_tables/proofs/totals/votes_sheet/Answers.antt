@@ -1,5 +1,5 @@
 use Rattle.std.proofs.Common.{arith, refl, ◌<◌, ◌∙◌}
-use Rattle.sl_report_forms.specs.Tables.{table_of}
+use Rattle.sl_report_forms.specs.Tables.{contents_of, table_of}
 use Rattle.sl_report_parties.proofs.Taking.{part_at, parts_long}
 use Rattle.sl_report_tables.specs.Totals.{IsVotesRow}
 use Rattle.sl_report_tables.proofs.GrowingTables.{grows_more}
@@ -11,8 +11,8 @@ index-part-requires c =
     let parts = c.in_ok-parts.parts.items in
     omega (arith, parts_long c.args.conditions.now c.args.returns.now parts parts refl c.in_ok-parts.ensures, c.loop-party-test.true, c.parties-party-end.ensures.number)
 
-pub push_party-requires-clause-part : goal.push_party-requires-clause-part
-push_party-requires-clause-part c =
+pub party_row-requires-clause-part : goal.party_row-requires-clause-part
+party_row-requires-clause-part c =
     let e = c.args.returns.now in
     let parts = c.in_ok-parts.parts.items in
     let within : c.loop-party.party < parties_of e = omega (arith, c.loop-party-test.true, c.parties-party-end.ensures.number) in
@@ -21,4 +21,4 @@ push_party-requires-clause-part c =
 pub loop-party-preserved : goal.loop-party-preserved
 loop-party-preserved c =
     grows_more (IsVotesRow c.args.conditions.now c.args.returns.now) c.loop-party.party (table_of c.in_ok-sheet.sheet)
-    (table_of c.loop-party.sheet) (table_of c.push_party.new.sheet) c.loop-party.invariant c.in_ok-push_party.ensures
+    (table_of c.loop-party.sheet) (table_of c.push.new.self) c.loop-party.invariant (contents_of c.in_ok-party_row.field-0.items, c.in_ok-party_row.ensures, c.in_ok-push.ensures)

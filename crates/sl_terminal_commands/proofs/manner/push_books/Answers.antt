@@ -1,6 +1,6 @@
 use Rattle.std.proofs.Common.{Some, ap, sym, ◌∙◌}
 use Rattle.std.proofs.lemmas.Option.{slice_get-get_or}
-use Rattle.sl_report_tables.proofs.MoreRows.{pieces_next}
+use Rattle.sl_terminal_commands.proofs.Pieces.{pieces_next}
 use Rattle.sl_terminal_commands.specs.inner.Digested.{named_digest}
 use Rattle.sl_terminal_commands.proofs.manner.push_books.Goals as goal
 

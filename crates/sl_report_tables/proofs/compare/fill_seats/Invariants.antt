@@ -1,9 +1,0 @@
-use Rattle.std.proofs.Common.{Some, map, ◌≡◌}
-use Rattle.std.specs.List.{range_with_len}
-use Rattle.sl_report_forms.specs.Tables.{table_of, with_rows}
-use Rattle.sl_report_tables.specs.Compare.{compared_row}
-use Rattle.sl_report_tables.specs.inner.Seated.{books_of}
-use Rattle.sl_report_tables.proofs.compare.fill_seats.Given as goal
-
-abbrev pub invariant-loop-party : goal.invariant-loop-party
-invariant-loop-party l = table_of l.sheet ≡ with_rows (table_of l.initial.sheet) (map (λ n. compared_row l.returns (books_of l.seated) (Some n)) (range_with_len 0 l.party))
