@@ -18,8 +18,8 @@ from repository import CRATES, EXAMPLES, TOP  # noqa: E402
 
 TABLES, SCHEMA = CRATES / "sl_report_tables", TOP / "docs" / "report.schema.json"
 FORMS = re.compile(r"(pub\(crate\) )?const (\w+): \[ColumnForm; \d+\] = \[(.*?)\];", re.S)
-# A sheet: its key, its title, and its columns, or one of two lists that begin with its key; those of winners by their places have one place each.
-SHEET = re.compile(r'"(\w+)",\s*(?:Title::\w+\(\w+\)|\w+),\s*(?:&(\w+)|(columns)|Placed::)')
+# A sheet: its key, its title, and its columns, which may stand behind those of names; those of winners by their places have one place each.
+SHEET = re.compile(r'"(\w+)",\s*(?:Title::\w+\(\w+\)|\w+),\s*(are_full,\s*)?(?:&(\w+)|Placed::)')
 
 # What a cell of a definition holds, by the word that it begins with; each other one is a text.
 CELLS = {
@@ -96,10 +96,9 @@ def sheets():
     tables = {}
     for text in texts:
         forms = {**shared, **{name: rows for _, name, rows in FORMS.findall(text)}}
-        for key, name, either in SHEET.findall(text):
-            several = [forms[key.upper()], forms[key.upper() + "_SHORT"]] if either else [forms[name] if name else placed]
-            keys = [re.findall(r'\(\s*"(\w+)"', rows) for rows in several]
-            tables[key] = keys[0] if all(it == keys[0] for it in keys) else []
+        for key, named, name in SHEET.findall(text):
+            rows = forms[name] if name else placed
+            tables[key] = re.findall(r'\(\s*"(\w+)"', forms["BOTH_NAMES"] + rows if named else rows)
     return tables
 
 

@@ -41,6 +41,19 @@ impl Draft {
         }
     }
 
+    /// The same, with room for so many bytes where there is memory for it.
+    pub(crate) fn with_room(alloc: Global, bytes: usize) -> Draft
+        ensures { result ≡ Some [] }
+    {
+        match String::with_capacity(alloc, bytes) {
+            Ok(text) => Draft {
+                text,
+                is_whole: true,
+            },
+            Err(_) => Draft::new(alloc),
+        }
+    }
+
     pub(crate) fn is_empty(&self) -> bool
         ensures { IfSome self.now (λ text. result ≡ nat_eq (length text) 0) }
     {

@@ -1,8 +1,8 @@
 //! Sheets: a key, a title, the heads of the columns, and rows.
 
-ghost use Rattle.std.specs.Prelude.{◌≡◌, ◌++◌, ◌∷◌, [], IfOk, OnOk, codes, map, string_bytes};
+ghost use Rattle.std.specs.Prelude.{◌≡◌, ◌++◌, ◌∷◌, [], IfOk, OnOk, codes, string_bytes};
 ghost use Rattle.sl_report_forms.specs.Heads.{head_key, head_look, head_text, title_text};
-ghost use Rattle.sl_report_forms.specs.Tables.{blank_table, column_of, contents_of, heads_of, table_of, under, with_heads, with_rows};
+ghost use Rattle.sl_report_forms.specs.Tables.{blank_table, contents_of, heads_of, table_of, under, with_heads, with_rows};
 
 use crate::cell::Cell;
 use crate::draft::copied;
@@ -98,17 +98,6 @@ fn titled_in(alloc: Global, title: &str, name: &str) -> Result<String, NoMemory>
     Ok(format!(in alloc; "{title}, {name}")?)
 }
 
-// The heads of these columns.
-fn heads_of(alloc: Global, columns: &[ColumnForm]) -> Result<Vec<Head>, NoMemory>
-    ensures { IfOk result (λ v. map column_of v.items ≡ heads_of columns.now) }
-{
-    let mut heads: Vec<Head> = Vec::new(alloc);
-    for column in columns {
-        heads.push(Head::Column(*column))?;
-    }
-    Ok(heads)
-}
-
 impl Title {
     // The title in a language, by these names.
     pub(crate) fn text(
@@ -143,13 +132,23 @@ impl Sheet {
     ) -> Result<Sheet, NoMemory>
         ensures { IfOk result (λ s. table_of s ≡ blank_table key.now (heads_of columns.now)) }
     {
-        let heads = heads_of(alloc, columns)?;
-        Ok(Sheet {
+        let mut sheet = Sheet {
             key,
             title,
-            heads,
+            heads: Vec::new(alloc),
             rows: Vec::new(alloc),
-        })
+        };
+        sheet.push_columns(columns).and(Ok(sheet))
+    }
+
+    /// Adds columns.
+    pub fn push_columns(&mut self, columns: &[ColumnForm]) -> Result<(), NoMemory>
+        ensures { OnOk result (table_of self.new ≡ with_heads (table_of self.old) (heads_of columns.now)) }
+    {
+        for column in columns {
+            self.heads.push(Head::Column(*column))?;
+        }
+        Ok(())
     }
 
     /// Adds a column of numbers under a word.

@@ -154,8 +154,11 @@ fn fits(columns: &[Column], most: u8) -> bool
 fn put_blanks(out: &mut Draft, count: usize)
     ensures { Grows out.old out.new (replicate count 32) }
 {
-    for _ in 0..count {
-        out.push(' ');
+    for _ in 0..count / 8 {
+        out.push_str("        ");
+    }
+    for _ in 0..count % 8 {
+        out.push_str(" ");
     }
 }
 
@@ -192,7 +195,7 @@ fn put_texts(out: &mut Draft, line: &[String], columns: &[Column])
 fn padded(alloc: Global, line: &[String], columns: &[Column]) -> Result<String, NoMemory>
     ensures { IfOk result (λ t. string_bytes t ≡ spec.padded_line columns.now (map string_bytes line.now)) }
 {
-    let mut padded = Draft::new(alloc);
+    let mut padded = Draft::with_room(alloc, usize::from(WIDE));
     put_texts(&mut padded, line, columns);
     padded.finished()
 }

@@ -20,7 +20,7 @@ use Rattle.sl_law_meaning.specs.declared.fault.Scope.{Scope}
 use Rattle.sl_law_meaning.specs.meaning.Tables.{SeatTable}
 use Rattle.sl_law_meaning.specs.returns.Election.{Election}
 use Rattle.sl_law_meaning.specs.returns.Facts.{all_valid_votes}
-use Rattle.sl_report_tables.specs.declared.press.TheConstants.{LEFT_OUT, LEFT_OUT_SHORT, PRESS, PRESS_SHORT}
+use Rattle.sl_report_tables.specs.declared.press.TheConstants.{BOTH_NAMES, LEFT_OUT, ONE_NAME, PRESS}
 
 -- ---- the parties in the order of their seats, and all together
 
@@ -53,15 +53,15 @@ sum_row e t earlier =
     ∷ a_number (length e.wins) ∷ a_number (all_seats t).direct ∷ a_number (all_valid_votes e)
     ∷ rounded_cell (all_valid_votes e) (all_valid_votes e) ∷ []
 
--- its columns, where full names are given and where none are
-abbrev pub press_columns : (are_full : Bool) → List Column
-press_columns true = listed PRESS
-press_columns false = listed PRESS_SHORT
+-- the columns of the names of a party, where full names are given and where none are
+abbrev pub named_columns : (are_full : Bool) → List Column
+named_columns true = listed BOTH_NAMES
+named_columns false = listed ONE_NAME
 
 abbrev pub press_table : (are_full : Bool) → Election → SeatTable → Option (List EarlierParty) → List Pressed → Table
 press_table are_full e t earlier pressed = record {
   key = codes "press";
-  columns = press_columns are_full;
+  columns = named_columns are_full ++ listed PRESS;
   rows = map (press_row (all_valid_votes e)) pressed ++ (gone_rows e earlier ++ sum_row e t earlier ∷ []);
 }
 
@@ -91,14 +91,10 @@ pub record IsLackingRow (conditions : List Cond) (e : Election) (s : Standing) (
   pub lacks_winners : Lacks (AreWinnersFor s.part.winners) conditions s.part.met winners
   pub row_is : row ≡ lacking_row e s votes winners
 
-abbrev pub lacking_columns : (are_full : Bool) → List Column
-lacking_columns true = listed LEFT_OUT
-lacking_columns false = listed LEFT_OUT_SHORT
-
 -- the first of the parties that meet no condition, by their valid votes
 pub record IsLackingTable (are_full : Bool) (conditions : List Cond) (e : Election) (t : Table) : Type 0 where
   pub key : t.key ≡ codes "left_out"
-  pub columns : t.columns ≡ lacking_columns are_full
+  pub columns : t.columns ≡ named_columns are_full ++ listed LEFT_OUT
   pub left_out : List Standing
   pub are_left_out : AreLeftOut conditions e left_out
   pub rows : AllZip (IsLackingRow conditions e) (take 1 left_out) t.rows

@@ -2,13 +2,13 @@
 //! out lacks.
 
 ghost use Rattle.std.specs.List.{AllZip};
-ghost use Rattle.std.specs.Prelude.{◌≡◌, IfOk, List, OnOk, filter, map, option_map, take};
+ghost use Rattle.std.specs.Prelude.{◌≡◌, ◌++◌, IfOk, List, OnOk, filter, map, option_map, take};
 ghost use Rattle.sl_report_forms.specs.Cells.{Content, content_of};
-ghost use Rattle.sl_report_forms.specs.Tables.{contents_of, table_of, with_rows};
+ghost use Rattle.sl_report_forms.specs.Tables.{blank_table, contents_of, heads_of, table_of, with_rows};
 ghost use Rattle.sl_report_parties.specs.Earlier.{all_before};
 ghost use Rattle.sl_report_parties.specs.Press.{ArePressed};
 ghost use Rattle.sl_report_parties.specs.declared.press.Pressed.{Pressed};
-ghost use Rattle.sl_report_tables.specs.Press.{IsLackingRow, IsLackingTable, change_since, gone_row, gone_rows, is_whole, press_row, press_table, sum_row};
+ghost use Rattle.sl_report_tables.specs.Press.{IsLackingRow, IsLackingTable, change_since, gone_row, gone_rows, is_whole, named_columns, press_row, press_table, sum_row};
 ghost use Rattle.sl_report_tables.specs.Reports.{IsPressReport};
 ghost use Rattle.sl_report_tables.specs.Scopes.{scopes_table};
 ghost use Rattle.sl_law_meaning.specs.book.Books.{book_of};
@@ -22,6 +22,7 @@ use crate::rows::{add_sheet, name, rounded};
 use crate::scopes::{SCOPES, scope_row};
 use crate::texts::{LAST_SEATS_TITLE, LEFT_OUT_TITLE, PRESS_TITLE};
 use sl_base_quotients::NoMemory;
+use sl_explain_texts::Message;
 use sl_report_forms::{ALL, Cell, ColumnForm, Look, Sheet, Title};
 use sl_report_parties::{
     EarlierParty, Pressed, Setting, Standing, all_before, all_votes, by_seats, gone, lacking_votes,
@@ -31,22 +32,18 @@ use sl_report_results::{Counted, Scoped};
 use sl_stages::{Item, Returns, Scope, Table};
 use std::alloc::Global;
 
-// With full names each party stands by both, and else by its name alone.
-const PRESS: [ColumnForm; 9] = [
+// The columns of a party's names: with full names both, and else its name alone.
+const BOTH_NAMES: [ColumnForm; 2] = [
     ("party", "party", "Partei", Look::Text(12)),
     ("party_name", "name", "Name", Look::Text(30)),
-    ("seats", "seats", "Sitze", Look::Number),
-    ("before", "before", "zuvor", Look::Number),
-    ("change", "change", "Änderung", Look::Number),
-    ("won", "won", "gewonnen", Look::Number),
-    ("direct", "seated", "mit Sitz", Look::Number),
-    ("valid", "votes", "Stimmen", Look::Number),
-    ("percent", "percent", "Prozent", Look::Number),
 ];
 
-const PRESS_SHORT: [ColumnForm; 9] = [
+const ONE_NAME: [ColumnForm; 2] = [
     ("party", "", "", Look::Hidden),
     ("party_name", "party", "Partei", Look::Text(30)),
+];
+
+const PRESS: [ColumnForm; 7] = [
     ("seats", "seats", "Sitze", Look::Number),
     ("before", "before", "zuvor", Look::Number),
     ("change", "change", "Änderung", Look::Number),
@@ -57,24 +54,27 @@ const PRESS_SHORT: [ColumnForm; 9] = [
 ];
 
 #[rattlefmt::skip]
-const LEFT_OUT: [ColumnForm; 6] = [
-    ("party", "party", "Partei", Look::Text(12)),
-    ("party_name", "name", "Name", Look::Text(30)),
+const LEFT_OUT: [ColumnForm; 4] = [
     ("valid", "votes", "Stimmen", Look::Number),
     ("percent", "percent", "Prozent", Look::Number),
     ("votes_short", "lacks votes", "Stimmen fehlen", Look::Number),
     ("winners_short", "lacks winners", "Wahlkreise fehlen", Look::Number),
 ];
 
-#[rattlefmt::skip]
-const LEFT_OUT_SHORT: [ColumnForm; 6] = [
-    ("party", "", "", Look::Hidden),
-    ("party_name", "party", "Partei", Look::Text(30)),
-    ("valid", "votes", "Stimmen", Look::Number),
-    ("percent", "percent", "Prozent", Look::Number),
-    ("votes_short", "lacks votes", "Stimmen fehlen", Look::Number),
-    ("winners_short", "lacks winners", "Wahlkreise fehlen", Look::Number),
-];
+// A sheet without rows, whose columns begin with the names of a party.
+fn named_sheet(
+    alloc: Global,
+    key: &'static str,
+    title: Message,
+    are_full: bool,
+    columns: &[ColumnForm],
+) -> Result<Sheet, NoMemory>
+    ensures { IfOk result (λ s. table_of s ≡ blank_table key.now (named_columns are_full ++ heads_of columns.now)) }
+{
+    let names = if are_full { &BOTH_NAMES } else { &ONE_NAME };
+    let mut sheet = Sheet::new(alloc, key, Title::Words(title), names)?;
+    sheet.push_columns(columns).and(Ok(sheet))
+}
 
 // By how many seats there are more or fewer than before, where these are known.
 fn change(seats: u64, before: Option<u64>) -> Cell
@@ -197,8 +197,7 @@ fn press_sheet(
     let found = by_seats(alloc, setting, table, earlier)?;
     let returns = setting.returns;
     let valid = all_votes(returns).valid;
-    let columns = if are_full { &PRESS } else { &PRESS_SHORT };
-    let mut sheet = Sheet::new(alloc, "press", Title::Words(PRESS_TITLE), columns)?;
+    let mut sheet = named_sheet(alloc, "press", PRESS_TITLE, are_full, &PRESS)?;
     for pressed in found.as_slice() {
         sheet.push(pressed_row(alloc, *pressed, valid)?)?;
     }
@@ -269,8 +268,7 @@ fn lacking_sheet(alloc: Global, setting: &Setting<'_>, are_full: bool) -> Result
     ensures { IfOk result (λ s. IsLackingTable are_full setting.now.book.now.eligible.items setting.now.returns.now (table_of s)) }
 {
     let found = left_out(alloc, setting)?;
-    let columns = if are_full { &LEFT_OUT } else { &LEFT_OUT_SHORT };
-    let mut sheet = Sheet::new(alloc, "left_out", Title::Words(LEFT_OUT_TITLE), columns)?;
+    let mut sheet = named_sheet(alloc, "left_out", LEFT_OUT_TITLE, are_full, &LEFT_OUT)?;
     push_first(alloc, &mut sheet, setting, found.as_slice()).and(Ok(sheet))
 }
 

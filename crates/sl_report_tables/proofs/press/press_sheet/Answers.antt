@@ -1,17 +1,19 @@
-use Rattle.std.proofs.Common.{Bor, List, ap, append_assoc, map, ◌≡◌, ◌∙◌, ◌∷◌, []}
+use Rattle.std.proofs.Common.{Bor, ◌++◌, List, ap, append_assoc, map, ◌≡◌, ◌∙◌, ◌∷◌, []}
 use Rattle.std.specs.Prelude.{codes, option_map}
 use Rattle.sl_law_meaning.specs.returns.Facts.{all_valid_votes}
 use Rattle.sl_report_forms.specs.Tables.{blank_table, table_of, with_rows}
 use Rattle.sl_report_parties.proofs.Steps.{at_end}
 use Rattle.sl_report_parties.specs.declared.earlier.EarlierParty.{EarlierParty}
-use Rattle.sl_report_tables.specs.Press.{gone_rows, press_columns, press_row, sum_row}
+use Rattle.sl_report_tables.specs.Columns.{listed}
+use Rattle.sl_report_tables.specs.declared.press.TheConstants.{PRESS}
+use Rattle.sl_report_tables.specs.Press.{gone_rows, named_columns, press_row, sum_row}
 use Rattle.sl_report_tables.proofs.press.press_sheet.Goals as goal
 
 pub returns : goal.returns
 returns c =
     let e = c.args.setting.now.returns.now in
     let earlier = option_map (λ (all : Bor (List EarlierParty)). all.now) c.args.earlier in
-    let blank = blank_table (codes "press") (press_columns c.args.are_full) in
+    let blank = blank_table (codes "press") (named_columns c.args.are_full ++ listed PRESS) in
     let rows = map (press_row (all_valid_votes e)) c.in_ok-found.found.items in
     let gone = gone_rows e earlier in
     let sum = sum_row e c.args.table.now earlier ∷ [] in
