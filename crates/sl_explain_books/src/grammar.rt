@@ -23,7 +23,7 @@ use limits::{explain_depth, explain_no_room, explain_stages};
 use sl_base_quotients::NoMemory;
 use sl_explain_texts::{Explainer, Explanation, FaultCode, Language, Message, Speaker};
 use sl_lex::{Keyword, Kind, Mark, Token};
-use sl_parse::ParseFault;
+use sl_parse::{ParseFault, keyword_method};
 use std::alloc::Global;
 
 // The words that begin a form.
@@ -124,13 +124,14 @@ impl<'a> Place<'a> {
     fn found_remedy(&self, before: Option<Token>, kind: Kind) -> &'static Message
         ensures { IsFilledBy result.now 0 }
     {
-        let is_after_end = before.is_some_and(|token| token.kind == Kind::Mark(Mark::Semicolon));
-        if kind == Kind::Mark(Mark::Close) && self.takes(Mark::Semicolon) {
-            &texts::SURPLUS
-        } else if kind == Kind::Mark(Mark::Semicolon) && is_after_end {
-            &texts::DOUBLE
-        } else {
-            remedy(self.sorts)
+        match (before.map(|token| token.kind), kind) {
+            (_, Kind::Mark(Mark::Close)) if self.takes(Mark::Semicolon) => &texts::SURPLUS,
+            (Some(Kind::Mark(Mark::Semicolon)), Kind::Mark(Mark::Semicolon)) => &texts::DOUBLE,
+            (Some(Kind::Keyword(Keyword::Prefer | Keyword::Refuse)), Kind::Mark(Mark::Comma)) =>
+                &texts::OPTIONS,
+            (Some(Kind::Keyword(Keyword::Atleast)), Kind::Number(_)) => &texts::MINIMA,
+            (_, Kind::Keyword(word)) if keyword_method(word).is_some() => &texts::FORMS_LISTED,
+            _ => remedy(self.sorts),
         }
     }
 

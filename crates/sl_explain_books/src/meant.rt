@@ -1,7 +1,7 @@
 //! Words of other languages and of other books for those of the language.
 
 // Names of methods, in small letters, and their keywords.
-const METHODS: [(&[u8], &[u8]); 18] = [
+const METHODS: [(&[u8], &[u8]); 22] = [
     (b"sainte", b"webster"),
     (b"saintelague", b"webster"),
     (b"sainte_lague", b"webster"),
@@ -12,11 +12,15 @@ const METHODS: [(&[u8], &[u8]); 18] = [
     (b"hondt", b"jefferson"),
     (b"hagenbach", b"jefferson"),
     (b"bischoff", b"jefferson"),
+    (b"hagenbach_bischoff", b"jefferson"),
     (b"hare", b"hamilton"),
     (b"niemeyer", b"hamilton"),
     (b"hare_niemeyer", b"hamilton"),
     (b"hareniemeyer", b"hamilton"),
     (b"vinton", b"hamilton"),
+    (b"largest_remainder", b"hamilton"),
+    (b"largest_remainders", b"hamilton"),
+    (b"groesste_reste", b"hamilton"),
     (b"huntington", b"hill"),
     (b"huntingtonhill", b"hill"),
     (b"huntington_hill", b"hill"),

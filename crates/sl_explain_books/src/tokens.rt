@@ -6,8 +6,10 @@ ghost use Rattle.sl_explain_books.specs.Codes.{token_code};
 
 mod character;
 
+use crate::meant::method_of;
 use crate::near::help_nearest_or;
 use crate::pieces::{piece, span_within, token_span};
+use crate::texts::meant::METHOD;
 use crate::texts::tokens as texts;
 use crate::whole::explain_whole;
 use character::{explain_character, explain_in_text};
@@ -62,12 +64,16 @@ fn explain_word(speaker: Speaker, text: &[u8], at: usize) -> Result<Explainer, N
     let most = speaker.number(MAX_NAME_BYTES)?;
     let values = [piece(text, span), length.as_slice(), most.as_slice()];
     let mut explainer = speaker.says_at(&texts::LONG_NAME, &values, span);
-    help_nearest_or(
-        &mut explainer,
-        word,
-        &LONG_KEYWORDS,
-        &texts::LONG_NAME_REMEDY,
-    )?;
+    if let Some(method) = method_of(word) {
+        explainer.helps(&METHOD, &[method]);
+    } else {
+        help_nearest_or(
+            &mut explainer,
+            word,
+            &LONG_KEYWORDS,
+            &texts::LONG_NAME_REMEDY,
+        )?;
+    }
     Ok(explainer)
 }
 

@@ -57,6 +57,6 @@ pub fn explain_whole(speaker: Speaker, text: &[u8], code: FaultCode) -> Option<E
         return None;
     };
     let span = span_within(text, 0, shown);
-    let explainer = speaker.says_at(&message.of_fault(code), &[], span);
+    let explainer = speaker.says_at(&(code, message.0, message.1), &[], span);
     Some(explainer.helped(remedy, &[]))
 }

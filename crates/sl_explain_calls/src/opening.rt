@@ -67,6 +67,9 @@ fn help_path(explainer: &mut Explainer, command: &str, input: Input, path: &str)
         Input::Returns if path.starts_with("@") && command != "run" => {
             explainer.helps(&texts::BOOK_FIRST, &[name, word, word, name])
         }
+        Input::Returns if command == "stage" && !path.contains(".") => {
+            explainer.helps(&texts::NAME_LAST, &[name])
+        }
         Input::Code if path.starts_with("@") => explainer.helps(&texts::NO_CODE_FILE, &[name]),
         _ => explainer.helps(advice(input, path), &[name]),
     }
@@ -148,6 +151,16 @@ pub enum Lost {
     Other,
 }
 
+// What is said of a file that would be lost, and what to do.
+fn lost_texts(lost: Lost) -> (&'static Message, &'static Message)
+    ensures { IsFilledBy result.0.now 1 × IsFilledBy result.1.now 0 }
+{
+    match lost {
+        Lost::Rulebook => (&texts::LOST_BOOK, &texts::ANOTHER),
+        Lost::Other => (&texts::LOST, &texts::FORCE),
+    }
+}
+
 /// Why a code file is not written over the file at a path.
 pub fn explain_kept(
     alloc: Global,
@@ -158,10 +171,7 @@ pub fn explain_kept(
     ensures { IfOk result (λ x. x.code ≡ None) }
 {
     let speaker = Speaker { alloc, language };
-    let (sentence, remedy) = match lost {
-        Lost::Rulebook => (&texts::LOST_BOOK, &texts::ANOTHER),
-        Lost::Other => (&texts::LOST, &texts::FORCE),
-    };
+    let (sentence, remedy) = lost_texts(lost);
     let explainer = speaker.tells(sentence, &[path.as_bytes()]);
     explainer.helped(remedy, &[]).finished()
 }

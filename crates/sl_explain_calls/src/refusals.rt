@@ -2,6 +2,7 @@
 
 ghost use Rattle.std.specs.Prelude.{◌≡◌, IfOk};
 ghost use Rattle.sl_explain_calls.specs.Codes.{book_code, election_code, refused_code, subject, subject_of};
+ghost use Rattle.sl_explain_calls.specs.Places.{IsOfElection};
 ghost use Rattle.sl_count_inputs.specs.declared.status.Input.TheVariants as input;
 
 use crate::explained::Explained;
@@ -58,7 +59,8 @@ fn about_election(
     bytes: &[u8],
     refused: &RefusedElection,
 ) -> Result<Explanation, NoMemory>
-    ensures { IfOk result (λ x. x.code ≡ election_code refused.now) }
+    ensures code { IfOk result (λ x. x.code ≡ election_code refused.now) }
+    ensures place { IfOk result (λ x. IsOfElection bytes.now refused.now x.span) }
 {
     match refused {
         RefusedElection::TooLong => explain_long_returns(alloc, language),
@@ -73,7 +75,8 @@ pub fn explain_election(
     bytes: &[u8],
     refused: &RefusedElection,
 ) -> Result<Explained, NoMemory>
-    ensures { IfOk result (λ told. subject_of told ≡ subject input.Returns (election_code refused.now)) }
+    ensures subject { IfOk result (λ told. subject_of told ≡ subject input.Returns (election_code refused.now)) }
+    ensures place { IfOk result (λ told. IsOfElection bytes.now refused.now told.explanation.span) }
 {
     Ok(Explained {
         input: Input::Returns,

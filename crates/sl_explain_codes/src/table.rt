@@ -5,7 +5,7 @@ ghost use Rattle.std.specs.Prelude.{◌≡◌};
 use crate::texts::page::PAGE;
 use crate::texts::{code_files, grammar, legal, returns, tests};
 use sl_base_quotients::NoMemory;
-use sl_explain_texts::{FaultCode, Language, Message};
+use sl_explain_texts::{FaultCode, Language, Message, Speaker};
 use std::alloc::Global;
 
 /// What is to be said of a code: a title, what it means, an example of a line that has the fault or of the line that tells of it, and what to do.
@@ -83,13 +83,12 @@ pub fn entry_of(code: FaultCode) -> &'static Entry
 /// What is to be said of a code, as a text: its title, what it means, an example, and what to do.
 pub fn text_about(alloc: Global, language: Language, code: FaultCode) -> Result<Vec<u8>, NoMemory> {
     let entry = entry_of(code);
-    let say = |message: &Message| message.in_language(language).as_bytes();
     let values = [
         code.word().as_bytes(),
-        say(&entry.title),
-        say(&entry.meaning),
+        language.text(&entry.title).as_bytes(),
+        language.text(&entry.meaning).as_bytes(),
         entry.example.as_bytes(),
-        say(&entry.remedy),
+        language.text(&entry.remedy).as_bytes(),
     ];
-    PAGE.text(alloc, language, &values)
+    Speaker { alloc, language }.text(&PAGE, &values)
 }

@@ -35,7 +35,7 @@ fn explain_magic(speaker: Speaker, bytes: &[u8], code: FaultCode) -> Result<Expl
     ensures { IfOk result (λ x. x.code ≡ Some code) }
 {
     let (message, remedy) = magic_messages(bytes);
-    let sentence = message.of_fault(code);
+    let sentence = (code, message.0, message.1);
     let explainer = if bytes.is_empty() || std::str::from_utf8(bytes).is_err() {
         speaker.says(&sentence, &[])
     } else {

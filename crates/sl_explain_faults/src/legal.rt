@@ -1,17 +1,20 @@
 //! Explains legal faults.
 
-ghost use Rattle.std.specs.Prelude.{◌≡◌, IfOk, Some};
-ghost use Rattle.sl_explain_texts.specs.declared.code.FaultCode.TheVariants.{L04};
-ghost use Rattle.sl_explain_texts.specs.Explainers.{Keeps};
-ghost use Rattle.sl_explain_texts.specs.Messages.{IsFilledBy};
+ghost use Rattle.std.specs.Fmt.{decimal};
+ghost use Rattle.std.specs.Prelude.{◌≡◌, ◌∷◌, [], IfOk, Some};
+ghost use Rattle.sl_explain_texts.specs.Explainers.{Begins, Keeps, KeepsWith};
+ghost use Rattle.sl_explain_texts.specs.Languages.{lent_of_fault};
+ghost use Rattle.sl_explain_texts.specs.Messages.{IsFilledBy, IsSaidBy, says, texts_of};
+ghost use Rattle.sl_explain_texts.specs.Pages.{texts_in};
 ghost use Rattle.sl_explain_faults.specs.Codes.{legal_code};
+ghost use Rattle.sl_explain_faults.specs.Legal.{ExplainsFault, SaysFault, legal_sentence, records_of, scope_words, stage_at};
 
 use crate::counts::{Sums, heaviest, majority_party, population, sums_of, winners_in};
 use crate::lots::help_lots;
 use crate::texts::legal as texts;
 use crate::words::{names_of, party_name, scope_words, stage_name};
 use sl_base_quotients::NoMemory;
-use sl_explain_texts::{Explainer, Explanation, Language, Message, Speaker};
+use sl_explain_texts::{Explainer, Explanation, Language, Message, Sentence, Speaker};
 use sl_stages::{FaultKind, Item, LegalFault, MAX_SEATS, Returns, Scope};
 use std::alloc::Global;
 
@@ -85,42 +88,70 @@ fn help_winners(explainer: &mut Explainer, returns: &Returns, scope: Scope)
     explainer.helps(&texts::MORE_SEATS, &[]);
 }
 
-// Adds what to do about a fault.
+// Adds what to do about a fault, and of a tie the records of its lots.
 fn help_fault(
     explainer: &mut Explainer,
     stages: &[&[u8]],
     returns: &Returns,
     fault: &LegalFault,
 ) -> Result<(), NoMemory>
-    ensures { Keeps explainer.old explainer.new }
+    requires { IfOk explainer.old.records (λ rs. rs.items ≡ []) }
+    ensures fault { KeepsWith explainer.old explainer.new explainer.new.records }
+    ensures records { IfOk explainer.new.records (λ rs. texts_in rs.items ≡ records_of returns.now (texts_of stages.now) fault.now) }
 {
     let scope = fault.scope;
     match &fault.kind {
-        FaultKind::Limit => explainer.helps(&texts::FEWER_SEATS, &[]),
-        FaultKind::Short => help_winners(explainer, returns, scope),
-        FaultKind::NoList => help_votes(explainer, returns, scope)?,
+        FaultKind::Limit => {
+            explainer.helps(&texts::FEWER_SEATS, &[]);
+            Ok(())
+        }
+        FaultKind::Short => {
+            help_winners(explainer, returns, scope);
+            Ok(())
+        }
+        FaultKind::NoList => help_votes(explainer, returns, scope),
         FaultKind::Tie { names, .. } => {
             let stage = stage_name(stages, fault.stage);
-            help_lots(explainer, stages, returns, stage, names.as_slice())?;
+            help_lots(explainer, stages, returns, stage, names.as_slice())
         }
-        FaultKind::Majority => help_majority(explainer, returns, scope)?,
-        FaultKind::Cap => help_heaviest(explainer, returns)?,
+        FaultKind::Majority => help_majority(explainer, returns, scope),
+        FaultKind::Cap => help_heaviest(explainer, returns),
     }
-    Ok(())
 }
 
-// That there is a tie of some items.
+// What is said of a fault that is no tie.
+fn say_scope(
+    speaker: Speaker,
+    stages: &[&[u8]],
+    returns: &Returns,
+    fault: &LegalFault,
+    sentence: &Sentence,
+) -> Result<Explainer, NoMemory>
+    requires { IsSaidBy sentence.now 3 }
+    ensures code { IfOk result (λ x. x.code ≡ Some sentence.now.0) }
+    ensures said { IfOk result (λ x. Begins x (says speaker.language (lent_of_fault sentence.now) (stage_at (texts_of stages.now) fault.now.stage ∷ scope_words returns.now speaker.language fault.now.scope ∷ decimal 4000 ∷ []))) }
+{
+    let stage = stage_name(stages, fault.stage);
+    let scope = scope_words(speaker, returns, fault.scope)?;
+    let most = speaker.number(MAX_SEATS as usize)?;
+    Ok(speaker.says(sentence, &[stage, scope.as_slice(), most.as_slice()]))
+}
+
+// That there is a tie of some items for so many seats.
 fn say_tie(
     speaker: Speaker,
-    stage: &[u8],
+    stages: &[&[u8]],
     returns: &Returns,
-    scope: Scope,
+    fault: &LegalFault,
     seats: u64,
     items: &[Item],
 ) -> Result<Explainer, NoMemory>
-    ensures { IfOk result (λ x. x.code ≡ Some L04) }
+    requires { fault.now.kind ≡ FaultKind.Tie seats items.now }
+    ensures code { IfOk result (λ x. x.code ≡ Some (legal_code fault.now)) }
+    ensures said { IfOk result (λ x. Begins x (legal_sentence returns.now speaker.language (texts_of stages.now) fault.now)) }
 {
-    let scope = scope_words(speaker, returns, scope)?;
+    let stage = stage_name(stages, fault.stage);
+    let scope = scope_words(speaker, returns, fault.scope)?;
     let seats = speaker.counted(seats as usize, &texts::SEAT, &texts::SEATS)?;
     let claims = speaker.number(items.len())?;
     let names = names_of(speaker, returns, items)?;
@@ -141,23 +172,19 @@ fn say_fault(
     returns: &Returns,
     fault: &LegalFault,
 ) -> Result<Explainer, NoMemory>
-    ensures { IfOk result (λ x. x.code ≡ Some (legal_code fault.now)) }
+    ensures code { IfOk result (λ x. x.code ≡ Some (legal_code fault.now)) }
+    ensures said { IfOk result (λ x. Begins x (legal_sentence returns.now speaker.language (texts_of stages.now) fault.now)) }
 {
-    let stage = stage_name(stages, fault.stage);
-    let sentence = match &fault.kind {
-        FaultKind::Limit => &texts::LIMIT,
-        FaultKind::Short => &texts::SHORT,
-        FaultKind::NoList => &texts::NO_LIST,
+    match &fault.kind {
+        FaultKind::Limit => say_scope(speaker, stages, returns, fault, &texts::LIMIT),
+        FaultKind::Short => say_scope(speaker, stages, returns, fault, &texts::SHORT),
+        FaultKind::NoList => say_scope(speaker, stages, returns, fault, &texts::NO_LIST),
         FaultKind::Tie { seats, names } => {
-            let items = names.as_slice();
-            return say_tie(speaker, stage, returns, fault.scope, *seats, items);
+            say_tie(speaker, stages, returns, fault, *seats, names.as_slice())
         }
-        FaultKind::Majority => &texts::MAJORITY,
-        FaultKind::Cap => &texts::CAP,
-    };
-    let scope = scope_words(speaker, returns, fault.scope)?;
-    let most = speaker.number(MAX_SEATS as usize)?;
-    Ok(speaker.says(sentence, &[stage, scope.as_slice(), most.as_slice()]))
+        FaultKind::Majority => say_scope(speaker, stages, returns, fault, &texts::MAJORITY),
+        FaultKind::Cap => say_scope(speaker, stages, returns, fault, &texts::CAP),
+    }
 }
 
 /// What a legal fault is, of a rulebook with stages of these names, in their order, on the returns: the first sentence of its explanation alone.
@@ -168,7 +195,7 @@ pub fn say_legal(
     returns: &Returns,
     fault: &LegalFault,
 ) -> Result<Explanation, NoMemory>
-    ensures { IfOk result (λ x. x.code ≡ Some (legal_code fault.now)) }
+    ensures { IfOk result (SaysFault returns.now language (texts_of stages.now) fault.now) }
 {
     say_fault(Speaker { alloc, language }, stages, returns, fault)?.finished()
 }
@@ -181,7 +208,7 @@ pub fn explain_legal(
     returns: &Returns,
     fault: &LegalFault,
 ) -> Result<Explanation, NoMemory>
-    ensures { IfOk result (λ x. x.code ≡ Some (legal_code fault.now)) }
+    ensures { IfOk result (ExplainsFault returns.now language (texts_of stages.now) fault.now) }
 {
     let mut explainer = say_fault(Speaker { alloc, language }, stages, returns, fault)?;
     help_fault(&mut explainer, stages, returns, fault)?;

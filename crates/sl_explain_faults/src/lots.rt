@@ -1,13 +1,16 @@
 //! The lots that decide a tie, and those of the returns that have no effect on it.
 
-ghost use Rattle.sl_explain_texts.specs.Explainers.{Keeps};
+ghost use Rattle.std.specs.Prelude.{◌≡◌, IfOk, map};
+ghost use Rattle.sl_explain_faults.specs.Legal.{lot_land, lot_party, lot_record, lot_win, party_of_win};
+ghost use Rattle.sl_explain_texts.specs.Explainers.{Keeps, KeepsWith};
 ghost use Rattle.sl_explain_texts.specs.Messages.{IsFilledBy};
+ghost use Rattle.sl_explain_texts.specs.Pages.{texts_in};
 
 use crate::texts::lots as texts;
 use crate::words::{land_name, names_of, party_name, stage_words, win_name};
 use sl_base_quotients::NoMemory;
 use sl_explain_texts::{Explainer, Message, append, nearest};
-use sl_stages::{Item, Lot, Returns};
+use sl_stages::{Item, Lot, Returns, Win};
 use std::alloc::Global;
 
 // Whether a lot gives a winner by the Land and the party of the winner.
@@ -45,19 +48,36 @@ fn is_named(returns: &Returns, stage: &[u8], item: Item) -> bool {
     returns.lots().iter().any(names)
 }
 
+// The name of the party of a winner, or nothing where it has none.
+fn party_of(returns: &Returns, winner: Win) -> &[u8]
+    ensures { result.now ≡ party_of_win returns.now winner }
+{
+    match winner.party {
+        Some(party) => party_name(returns, party),
+        None => b"",
+    }
+}
+
 // The Land, the party and the constituency of a lot for a winner.
-fn winner_fields(returns: &Returns, win: usize) -> (&[u8], &[u8], &[u8]) {
+fn winner_fields(returns: &Returns, win: usize) -> (&[u8], &[u8], &[u8])
+    ensures land { result.0.now ≡ lot_land returns.now (Item.Win win) }
+    ensures party { result.1.now ≡ lot_party returns.now (Item.Win win) }
+    ensures win { result.2.now ≡ lot_win returns.now (Item.Win win) }
+{
     if win >= returns.wins() {
         return (b"", b"", b"");
     }
     let winner = returns.win(win);
-    let (land, party) = (winner.land, winner.party);
-    let party = party.map_or(b"".as_slice(), |party| party_name(returns, party));
-    (land_name(returns, land), party, win_name(returns, win))
+    let land = land_name(returns, winner.land);
+    (land, party_of(returns, winner), win_name(returns, win))
 }
 
 // The Land, the party and the constituency of a lot for an item.
-fn fields_of(returns: &Returns, item: Item) -> (&[u8], &[u8], &[u8]) {
+fn fields_of(returns: &Returns, item: Item) -> (&[u8], &[u8], &[u8])
+    ensures land { result.0.now ≡ lot_land returns.now item }
+    ensures party { result.1.now ≡ lot_party returns.now item }
+    ensures win { result.2.now ≡ lot_win returns.now item }
+{
     match item {
         Item::Party(party) => (b"", party_name(returns, party), b""),
         Item::Land(land) => (land_name(returns, land), b"", b""),
@@ -67,7 +87,9 @@ fn fields_of(returns: &Returns, item: Item) -> (&[u8], &[u8], &[u8]) {
 }
 
 // The record of a lot for an item.
-fn record(alloc: Global, returns: &Returns, stage: &[u8], item: Item) -> Result<Vec<u8>, NoMemory> {
+fn record(alloc: Global, returns: &Returns, stage: &[u8], item: Item) -> Result<Vec<u8>, NoMemory>
+    ensures { IfOk result (λ text. text.items ≡ lot_record returns.now stage.now item) }
+{
     let (land, party, win) = fields_of(returns, item);
     let mut record = Vec::new(alloc);
     append(&mut record, &[b"lot,", land, b",", party, b","])?;
@@ -75,15 +97,20 @@ fn record(alloc: Global, returns: &Returns, stage: &[u8], item: Item) -> Result<
     Ok(record)
 }
 
-// Adds the records of the lots that decide a tie of these items.
-fn help_draw(explainer: &mut Explainer, returns: &Returns, stage: &[u8], items: &[Item])
-    ensures { Keeps explainer.old explainer.new }
+// The records of the lots that decide a tie of these items.
+fn records_of(
+    alloc: Global,
+    returns: &Returns,
+    stage: &[u8],
+    items: &[Item],
+) -> Result<Vec<Vec<u8>>, NoMemory>
+    ensures { IfOk result (λ records. texts_in records.items ≡ map (lot_record returns.now stage.now) items.now) }
 {
-    explainer.helps(&texts::DRAW, &[]);
-    let alloc = explainer.speaker().alloc;
+    let mut records = Vec::new(alloc);
     for item in items {
-        explainer.record(record(alloc, returns, stage, *item));
+        records.push(record(alloc, returns, stage, *item)?)?;
     }
+    Ok(records)
 }
 
 // How many lots name a stage.
@@ -191,9 +218,12 @@ pub fn help_lots(
     stage: &[u8],
     items: &[Item],
 ) -> Result<(), NoMemory>
-    ensures { Keeps explainer.old explainer.new }
+    ensures fault { KeepsWith explainer.old explainer.new explainer.new.records }
+    ensures records { IfOk explainer.new.records (λ rs. texts_in rs.items ≡ map (lot_record returns.now stage.now) items.now) }
 {
-    help_draw(explainer, returns, stage, items);
+    explainer.helps(&texts::DRAW, &[]);
+    let alloc = explainer.speaker().alloc;
+    explainer.gives_records(records_of(alloc, returns, stage, items));
     help_missing(explainer, returns, stage, items)?;
     help_shapes(explainer, returns, stage, items);
     help_stages(explainer, stages, returns.lots())

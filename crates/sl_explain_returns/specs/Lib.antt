@@ -1,2 +1,4 @@
 -- The codes of the faults of returns.
 pub mod Codes
+-- Where explanations point.
+pub mod Places

@@ -1,6 +1,7 @@
 //! A record that is refused, with the text that it stands in, and a look at other records there.
 
-ghost use Rattle.std.specs.Prelude.{◌≡◌, IfOk, Some, length};
+ghost use Rattle.std.specs.Prelude.{◌≡◌, IfOk, Some, length, true};
+ghost use Rattle.sl_explain_returns.specs.Places.{Explains, begins_cell};
 ghost use Rattle.sl_explain_texts.specs.Messages.{IsFilledBy};
 
 use crate::texts::case::{CELL, CELLS, RECORD, TABLE};
@@ -66,7 +67,9 @@ impl Case<'_> {
     }
 
     /// The bytes of the cell of a column. Where there is none, the end of the text.
-    pub(crate) fn at(&self, column: usize) -> Span {
+    pub(crate) fn at(&self, column: usize) -> Span
+        ensures { begins_cell self.now.bytes.now self.now.refused.fault.row result.start ≡ true }
+    {
         match self.refused.place(self.bytes, column) {
             Some(place) => Span {
                 start: place.start,
@@ -80,7 +83,9 @@ impl Case<'_> {
     }
 
     /// The bytes from the cell of a column to that of another.
-    pub(crate) fn between(&self, first: usize, last: usize) -> Span {
+    pub(crate) fn between(&self, first: usize, last: usize) -> Span
+        ensures { begins_cell self.now.bytes.now self.now.refused.fault.row result.start ≡ true }
+    {
         Span {
             start: self.at(first).start,
             end: self.at(last).end,
@@ -88,7 +93,9 @@ impl Case<'_> {
     }
 
     /// The bytes of the record, without its line end.
-    pub(crate) fn whole(&self) -> Span {
+    pub(crate) fn whole(&self) -> Span
+        ensures { begins_cell self.now.bytes.now self.now.refused.fault.row result.start ≡ true }
+    {
         self.between(KIND, self.cells().saturating_sub(1))
     }
 
@@ -140,10 +147,12 @@ impl Case<'_> {
         values: &[&[u8]],
         span: Span,
     ) -> Explainer
-        requires { IsFilledBy message.now (length values.now) }
-        ensures { result.code ≡ Some code }
+        requires message { IsFilledBy message.now (length values.now) }
+        requires place { begins_cell self.now.bytes.now self.now.refused.fault.row span.start ≡ true }
+        ensures { Explains self.now (Some code) result }
     {
-        self.speaker.says_at(&message.of_fault(code), values, span)
+        self.speaker
+            .says_at(&(code, message.0, message.1), values, span)
     }
 
     /// An explanation of one sentence on the cell of a column, about the fault of a code. Its values are the name of the column, what the cell holds,
@@ -157,7 +166,7 @@ impl Case<'_> {
         more: (&'x [u8], &'x [u8]),
     ) -> Explainer
         requires { IsFilledBy message.now 5 }
-        ensures { result.code ≡ Some code }
+        ensures { Explains self.now (Some code) result }
     {
         let values = [self.name(column), words, self.text(column), more.0, more.1];
         self.says(code, message, &values, self.at(column))
@@ -170,8 +179,9 @@ impl Case<'_> {
         message: &Message,
         span: Span,
     ) -> Result<Explainer, NoMemory>
-        requires { IsFilledBy message.now 1 }
-        ensures { IfOk result (λ x. x.code ≡ Some code) }
+        requires message { IsFilledBy message.now 1 }
+        requires place { begins_cell self.now.bytes.now self.now.refused.fault.row span.start ≡ true }
+        ensures { IfOk result (Explains self.now (Some code)) }
     {
         let count = self.speaker.counted(self.cells(), &CELL, &CELLS)?;
         Ok(self.says(code, message, &[count.as_slice()], span))
@@ -179,7 +189,7 @@ impl Case<'_> {
 
     /// The explanation of the record where nothing else can be said of it, about the fault of a code.
     pub(crate) fn explains_row(&self, code: FaultCode) -> Result<Explainer, NoMemory>
-        ensures { IfOk result (λ x. x.code ≡ Some code) }
+        ensures { IfOk result (Explains self.now (Some code)) }
     {
         let row = self.speaker.number(self.refused.fault.row as usize)?;
         let explainer = self.says(code, &RECORD, &[row.as_slice()], self.whole());

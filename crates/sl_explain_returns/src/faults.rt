@@ -1,6 +1,7 @@
 //! The explanation of a fault of returns.
 
 ghost use Rattle.std.specs.Prelude.{◌≡◌, IfOk, IfSome, None, Some};
+ghost use Rattle.sl_explain_returns.specs.Places.{Explains, IsInRecord};
 ghost use Rattle.sl_explain_texts.specs.declared.code.FaultCode.TheVariants.{R12};
 ghost use Rattle.sl_explain_returns.specs.Codes.{returns_code};
 
@@ -43,7 +44,7 @@ fn code_of(kind: FaultKind) -> Option<FaultCode>
 
 // Out of memory, which is no fault of the returns.
 fn explain_no_memory(speaker: Speaker) -> Explainer
-    ensures { result.code ≡ None }
+    ensures { (result.code ≡ None) × (result.span ≡ None) }
 {
     speaker
         .tells(&texts::OUT_OF_MEMORY, &[])
@@ -52,7 +53,7 @@ fn explain_no_memory(speaker: Speaker) -> Explainer
 
 // A fault, in a record whose quotes are closed.
 fn explain_fault(case: &Case<'_>, fault: ReturnsFault) -> Result<Explainer, NoMemory>
-    ensures { IfOk result (λ x. x.code ≡ returns_code fault.kind) }
+    ensures { IfOk result (Explains case.now (returns_code fault.kind)) }
 {
     match fault.kind {
         FaultKind::Header => explain_header(case),
@@ -72,7 +73,7 @@ fn explain_fault(case: &Case<'_>, fault: ReturnsFault) -> Result<Explainer, NoMe
 
 // A quote that is not closed in a record after the header. Of the first record it is looked first what the file is.
 fn explain_open_quote(case: &Case<'_>, kind: FaultKind) -> Option<Explainer>
-    ensures { IfSome result (λ x. x.code ≡ returns_code kind) }
+    ensures { IfSome result (Explains case.now (returns_code kind)) }
 {
     match code_of(kind) {
         Some(FaultCode::R01) | None => None,
@@ -82,7 +83,7 @@ fn explain_open_quote(case: &Case<'_>, kind: FaultKind) -> Option<Explainer>
 
 // A record that is refused.
 pub(crate) fn explain_record(case: &Case<'_>) -> Result<Explainer, NoMemory>
-    ensures { IfOk result (λ x. x.code ≡ returns_code case.now.refused.fault.kind) }
+    ensures { IfOk result (Explains case.now (returns_code case.now.refused.fault.kind)) }
 {
     let fault = case.refused.fault;
     match explain_open_quote(case, fault.kind) {
@@ -98,7 +99,8 @@ pub fn explain_returns(
     bytes: &[u8],
     refused: &RefusedReturns,
 ) -> Result<Explanation, NoMemory>
-    ensures { IfOk result (λ x. x.code ≡ returns_code refused.now.fault.kind) }
+    ensures code { IfOk result (λ x. x.code ≡ returns_code refused.now.fault.kind) }
+    ensures place { IfOk result (λ x. IsInRecord bytes.now refused.now.fault.row x.span) }
 {
     let case = Case {
         speaker: Speaker { alloc, language },
@@ -113,7 +115,7 @@ pub fn explain_returns(
 
 /// The explanation of returns that are longer than they may be.
 pub fn explain_long_returns(alloc: Global, language: Language) -> Result<Explanation, NoMemory>
-    ensures { IfOk result (λ x. x.code ≡ Some R12) }
+    ensures { IfOk result (λ x. (x.code ≡ Some R12) × (x.span ≡ None)) }
 {
     let speaker = Speaker { alloc, language };
     speaker

@@ -1,6 +1,7 @@
 //! Records with too many or too few cells, and cells that are filled or empty against their kind.
 
-ghost use Rattle.std.specs.Prelude.{◌≡◌, IfOk, Some};
+ghost use Rattle.std.specs.Prelude.{◌≡◌, IfOk, IfSome, Some, true};
+ghost use Rattle.sl_explain_returns.specs.Places.{Explains, begins_cell};
 ghost use Rattle.sl_explain_texts.specs.Messages.{IsFilledBy};
 ghost use Rattle.sl_explain_texts.specs.declared.code.FaultCode.TheVariants.{R02};
 
@@ -40,17 +41,51 @@ fn is_trailing(case: &Case<'_>) -> bool {
     case.cells() == 7 && case.text(COLUMNS).is_empty() && !is_filled_after(case)
 }
 
-// The column of a number that a comma splits: one to three digits, and three after it.
-fn split_number(case: &Case<'_>) -> Option<usize> {
+// Whether a cell is what a decimal comma splits off: one or two digits, or digits before an exponent.
+fn are_decimals(cell: &[u8]) -> bool {
+    let digits = cell.iter().take_while(|byte| byte.is_ascii_digit()).count();
+    match cell.get(digits) {
+        Some(b'E' | b'e') => digits > 0,
+        Some(_) => false,
+        None => digits == 1 || digits == 2,
+    }
+}
+
+// Whether a number stands in a column, and the record has so few cells more that decimal commas explain them. A `win` record has no empty cell at its
+// end.
+fn may_have_decimals(case: &Case<'_>, column: usize) -> bool {
+    let is_number = matches!(case.content(column), Some(Content::Number(_)));
+    let last = case.text(case.cells().saturating_sub(1));
+    is_number && case.cells() <= 8 && (case.kind() == Some(Kind::Win) || last.is_empty())
+}
+
+// What is said of a number in a column that a comma splits in two, and what to do.
+fn comma_messages(case: &Case<'_>, column: usize) -> Option<(&'static Message, &'static Message)>
+    ensures { IfSome result (λ x. IsFilledBy x.0.now 1 × IsFilledBy x.1.now 0) }
+{
+    let (front, rest) = (case.text(column), case.text(column.saturating_add(1)));
+    if front.is_empty() || !are_digits(front) {
+        None
+    } else if front.len() <= 3 && rest.len() == 3 && are_digits(rest) {
+        Some((&texts::SPLIT, &texts::JOIN))
+    } else if may_have_decimals(case, column) && are_decimals(rest) {
+        Some((&texts::DECIMAL_COMMA, &texts::WHOLE_NUMBERS))
+    } else {
+        None
+    }
+}
+
+// What is said of the first number that a comma splits in two, what to do, and the bytes spoken of.
+fn split_messages(case: &Case<'_>) -> Option<(&'static Message, &'static Message, Span)>
+    ensures messages { IfSome result (λ x. IsFilledBy x.0.now 1 × IsFilledBy x.1.now 0) }
+    ensures place { IfSome result (λ x. begins_cell case.now.bytes.now case.now.refused.fault.row x.2.start ≡ true) }
+{
     if case.cells() <= COLUMNS {
         return None;
     }
     for column in A..COLUMNS {
-        let front = case.text(column);
-        let rest = case.text(column + 1);
-        let is_front = !front.is_empty() && front.len() <= 3 && are_digits(front);
-        if is_front && rest.len() == 3 && are_digits(rest) {
-            return Some(column);
+        if let Some((sentence, remedy)) = comma_messages(case, column) {
+            return Some((sentence, remedy, case.at(column)));
         }
     }
     None
@@ -63,7 +98,8 @@ fn is_separated_by(case: &Case<'_>, mark: u8) -> bool {
 
 // What is said of a wrong number of cells, what to do, and the bytes spoken of.
 fn count_messages(case: &Case<'_>) -> (&'static Message, &'static Message, Span)
-    ensures { IsFilledBy result.0.now 1 × IsFilledBy result.1.now 0 }
+    ensures messages { IsFilledBy result.0.now 1 × IsFilledBy result.1.now 0 }
+    ensures place { begins_cell case.now.bytes.now case.now.refused.fault.row result.2.start ≡ true }
 {
     if case.text(KIND).starts_with(b"#") {
         (&texts::RECORD_COMMENT, &texts::DELETE, case.whole())
@@ -79,8 +115,8 @@ fn count_messages(case: &Case<'_>) -> (&'static Message, &'static Message, Span)
             &texts::SHORTEN_RECORD,
             case.at(COLUMNS),
         )
-    } else if let Some(column) = split_number(case) {
-        (&texts::SPLIT, &texts::JOIN, case.at(column))
+    } else if let Some(messages) = split_messages(case) {
+        messages
     } else {
         (
             &texts::RECORD_CELLS,
@@ -93,7 +129,7 @@ fn count_messages(case: &Case<'_>) -> (&'static Message, &'static Message, Span)
 // A cell that must be empty.
 fn explain_filled(case: &Case<'_>, column: usize, sentence: &Message, remedy: &Message) -> Explainer
     requires { IsFilledBy sentence.now 2 × IsFilledBy remedy.now 0 }
-    ensures { result.code ≡ Some R02 }
+    ensures { Explains case.now (Some R02) result }
 {
     let values = [case.name(column), case.text(KIND)];
     case.says(FaultCode::R02, sentence, &values, case.at(column))
@@ -116,7 +152,7 @@ fn lot_message(case: &Case<'_>) -> &'static Message
 
 // A cell that is filled or empty against its kind.
 fn explain_cell(case: &Case<'_>, column: usize) -> Explainer
-    ensures { result.code ≡ Some R02 }
+    ensures { Explains case.now (Some R02) result }
 {
     match case.content(column) {
         Some(Content::Blank) => {
@@ -141,7 +177,7 @@ fn explain_cell(case: &Case<'_>, column: usize) -> Explainer
 
 /// The explanation of a record with the wrong number of cells, or of a cell that is filled or empty against its kind.
 pub(crate) fn explain_fields(case: &Case<'_>, column: Option<usize>) -> Result<Explainer, NoMemory>
-    ensures { IfOk result (λ x. x.code ≡ Some R02) }
+    ensures { IfOk result (Explains case.now (Some R02)) }
 {
     match column {
         Some(column) => Ok(explain_cell(case, column)),

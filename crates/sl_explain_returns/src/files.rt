@@ -1,6 +1,7 @@
 //! Files that are no returns at all.
 
 ghost use Rattle.std.specs.Prelude.{◌≡◌, IfSome, Some};
+ghost use Rattle.sl_explain_returns.specs.Places.{Explains};
 ghost use Rattle.sl_explain_texts.specs.declared.code.FaultCode.TheVariants.{R01};
 ghost use Rattle.sl_explain_texts.specs.Messages.{IsFilledBy};
 
@@ -39,13 +40,15 @@ fn file_messages(bytes: &[u8]) -> Option<(&'static Message, &'static Message)>
     ensures { IfSome result (λ x. IsFilledBy x.0.now 1 × IsFilledBy x.1.now 0) }
 {
     if bytes.trim_ascii().is_empty() || bytes == b"\xEF\xBB\xBF".as_slice() {
-        Some((&texts::EMPTY_FILE, &texts::NO_PATH))
+        Some((&texts::EMPTY_FILE, &texts::EMPTIED))
     } else if packing_of(bytes) == Some("zip") {
         Some((&texts::ZIPPED, &texts::SAVE_OR_UNPACK))
     } else if packing_of(bytes).is_some() {
         Some((&texts::PACKED, &texts::UNPACK))
     } else if bytes.starts_with(b"\xD0\xCF\x11\xE0") {
         Some((&texts::WORKBOOK, &texts::SAVE))
+    } else if bytes.starts_with(b"{\\rtf") {
+        Some((&texts::RICH_TEXT, &texts::SAVE_PLAIN))
     } else if bytes.starts_with(b"SLC") {
         Some((&texts::CODE, &texts::RUN))
     } else if is_utf16(bytes) {
@@ -59,7 +62,7 @@ fn file_messages(bytes: &[u8]) -> Option<(&'static Message, &'static Message)>
 
 // A rulebook, at its first line.
 fn explain_book(case: &Case<'_>) -> Explainer
-    ensures { result.code ≡ Some R01 }
+    ensures { Explains case.now (Some R01) result }
 {
     let span = Span {
         start: 0,
@@ -71,16 +74,16 @@ fn explain_book(case: &Case<'_>) -> Explainer
 
 /// The explanation of a file that is no text of cells or has no record, if it is one.
 pub(crate) fn explain_file(case: &Case<'_>) -> Option<Explainer>
-    ensures { IfSome result (λ x. x.code ≡ Some R01) }
+    ensures { IfSome result (Explains case.now (Some R01)) }
 {
     let (message, remedy) = match file_messages(case.bytes) {
         Some(messages) => messages,
         None if is_book(case.bytes) => return Some(explain_book(case)),
-        None if case.refused.record.is_empty() => (&texts::EMPTY_FILE, &texts::NO_PATH),
+        None if case.refused.record.is_empty() => (&texts::EMPTY_FILE, &texts::EMPTIED),
         None => return None,
     };
     let packing = packing_of(case.bytes).unwrap_or("");
-    let sentence = message.of_fault(FaultCode::R01);
+    let sentence = (FaultCode::R01, message.0, message.1);
     let explainer = case.speaker.says(&sentence, &[packing.as_bytes()]);
     Some(explainer.helped(remedy, &[]))
 }

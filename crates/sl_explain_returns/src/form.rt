@@ -154,9 +154,10 @@ fn is_percentage(cell: &[u8]) -> bool {
     begins_number(cell) && cell.ends_with(b"%")
 }
 
-// Whether a cell stands for a missing value.
+// Whether a cell stands for a missing value: by a word, or by a dash as a typesetter writes it.
 fn is_missing(cell: &[u8]) -> bool {
-    MISSING.iter().any(|word| cell.eq_ignore_ascii_case(word))
+    let is_dash = cell == "–".as_bytes() || cell == "—".as_bytes();
+    is_dash || MISSING.iter().any(|word| cell.eq_ignore_ascii_case(word))
 }
 
 /// What a cell looks like that is no number.

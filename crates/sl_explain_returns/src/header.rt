@@ -1,7 +1,8 @@
 //! Returns that do not begin with the header.
 
-ghost use Rattle.std.specs.Prelude.{◌≡◌, IfOk, IfSome, Some};
+ghost use Rattle.std.specs.Prelude.{◌≡◌, IfOk, IfSome, Some, true};
 ghost use Rattle.sl_explain_texts.specs.declared.code.FaultCode.TheVariants.{R01};
+ghost use Rattle.sl_explain_returns.specs.Places.{Explains, begins_cell};
 ghost use Rattle.sl_explain_texts.specs.Messages.{IsFilledBy};
 
 use crate::case::Case;
@@ -156,7 +157,7 @@ fn first_other(case: &Case<'_>) -> usize {
 
 // A first cell of the header that differs.
 fn explain_other(case: &Case<'_>) -> Explainer
-    ensures { result.code ≡ Some R01 }
+    ensures { Explains case.now (Some R01) result }
 {
     let column = first_other(case);
     let values = [case.text(column), case.name(column)];
@@ -166,7 +167,8 @@ fn explain_other(case: &Case<'_>) -> Explainer
 
 // A first line of cells that is no header.
 fn explain_cells(case: &Case<'_>, span: Span) -> Result<Explainer, NoMemory>
-    ensures { IfOk result (λ x. x.code ≡ Some R01) }
+    requires { begins_cell case.now.bytes.now case.now.refused.fault.row span.start ≡ true }
+    ensures { IfOk result (Explains case.now (Some R01)) }
 {
     if let Some((sentence, remedy)) = near_messages(case) {
         let explainer = case.says(FaultCode::R01, sentence, &[], span);
@@ -181,7 +183,9 @@ fn explain_cells(case: &Case<'_>, span: Span) -> Result<Explainer, NoMemory>
 }
 
 // The line in which the record begins.
-fn first_of<'a>(case: &Case<'a>) -> (&'a [u8], Span) {
+fn first_of<'a>(case: &Case<'a>) -> (&'a [u8], Span)
+    ensures { begins_cell case.now.bytes.now case.now.refused.fault.row result.1.start ≡ true }
+{
     let start = case.at(KIND).start;
     let line = match case.bytes.split_at_checked(start) {
         Some((_, rest)) => first_line(rest),
@@ -193,7 +197,7 @@ fn first_of<'a>(case: &Case<'a>) -> (&'a [u8], Span) {
 
 // A first line that is text and no header.
 fn explain_line(case: &Case<'_>) -> Result<Explainer, NoMemory>
-    ensures { IfOk result (λ x. x.code ≡ Some R01) }
+    ensures { IfOk result (Explains case.now (Some R01)) }
 {
     let (line, span) = first_of(case);
     match foreign_messages(case, line) {
@@ -208,7 +212,7 @@ fn explain_line(case: &Case<'_>) -> Result<Explainer, NoMemory>
 
 /// The explanation of returns whose first record is not the header.
 pub(crate) fn explain_header(case: &Case<'_>) -> Result<Explainer, NoMemory>
-    ensures { IfOk result (λ x. x.code ≡ Some R01) }
+    ensures { IfOk result (Explains case.now (Some R01)) }
 {
     if let Some(explainer) = explain_file(case) {
         return Ok(explainer);

@@ -1,6 +1,7 @@
 //! Records of no kind.
 
 ghost use Rattle.std.specs.Prelude.{◌≡◌, IfOk, IfSome, Some};
+ghost use Rattle.sl_explain_returns.specs.Places.{Explains};
 ghost use Rattle.sl_explain_texts.specs.Messages.{IsFilledBy};
 ghost use Rattle.sl_explain_texts.specs.declared.code.FaultCode.TheVariants.{R03, R11};
 
@@ -58,6 +59,8 @@ fn messages(case: &Case<'_>) -> (&'static Message, Option<&'static Message>)
         (&texts::NO_KIND, None)
     } else if cell == b"kind".as_slice() || cell == b"kind2".as_slice() {
         (&texts::AGAIN, Some(&DELETE))
+    } else if cell.starts_with(b"\xEF\xBB\xBFkind") {
+        (&texts::AGAIN, Some(&texts::JOINED))
     } else if cell.starts_with(b"#") {
         (&texts::KIND_COMMENT, Some(&DELETE))
     } else if cell.starts_with(b"kind") {
@@ -69,7 +72,7 @@ fn messages(case: &Case<'_>) -> (&'static Message, Option<&'static Message>)
 
 /// The explanation of a record whose first cell is no kind.
 pub(crate) fn explain_kind(case: &Case<'_>) -> Result<Explainer, NoMemory>
-    ensures { IfOk result (λ x. x.code ≡ Some R03) }
+    ensures { IfOk result (Explains case.now (Some R03)) }
 {
     let cell = case.text(KIND);
     let (sentence, remedy) = messages(case);
@@ -86,7 +89,7 @@ pub(crate) fn explain_kind(case: &Case<'_>) -> Result<Explainer, NoMemory>
 
 /// The explanation of returns without a Land, at their last record.
 pub(crate) fn explain_no_land(case: &Case<'_>) -> Explainer
-    ensures { result.code ≡ Some R11 }
+    ensures { Explains case.now (Some R11) result }
 {
     case.says(FaultCode::R11, &texts::NO_LAND_RECORD, &[], case.whole())
         .helped(&texts::ADD_LAND, &[])

@@ -9,12 +9,12 @@ fn is_name_byte(byte: u8) -> bool {
     byte.is_ascii_alphanumeric() || byte == b'_' || byte == b'-'
 }
 
-// The letters for one of Latin-1, in small letters.
+// The letters for one of Latin-1, or for an umlaut of DOS, in small letters.
 fn small_letters(code: u8) -> &'static [u8] {
     match code {
-        0xC4 | 0xE4 | 0xC6 | 0xE6 => b"ae",
-        0xD6 | 0xF6 => b"oe",
-        0xDC | 0xFC => b"ue",
+        0xC4 | 0xE4 | 0xC6 | 0xE6 | 0x84 | 0x8E => b"ae",
+        0xD6 | 0xF6 | 0x94 | 0x99 => b"oe",
+        0xDC | 0xFC | 0x81 | 0x9A => b"ue",
         0xDF => b"ss",
         0xC0..=0xC5 | 0xE0..=0xE5 => b"a",
         0xC7 | 0xE7 => b"c",
@@ -25,6 +25,18 @@ fn small_letters(code: u8) -> &'static [u8] {
         0xD9..=0xDC | 0xF9..=0xFC => b"u",
         _ => b"",
     }
+}
+
+// Letters of Cyrillic and Greek, each of two bytes in UTF-8, and those of A to Z that they look like.
+const OTHERS: &str = "АВСЕНІКМОРЅТХасеорхΑΒΕΗΙΚΜΝΟΡΤΧο";
+
+const LIKE: &[u8] = b"ABCEHIKMOPSTXaceopxABEHIKMNOPTXo";
+
+/// The letter of A to Z that a letter of Cyrillic or Greek looks like; nothing for any other character.
+pub(crate) fn lookalike(character: &[u8]) -> &'static [u8] {
+    let mut pairs = OTHERS.as_bytes().chunks(2).zip(LIKE.chunks(1));
+    let pair = pairs.find(|pair| pair.0 == character);
+    pair.map_or(&[], |pair| pair.1)
 }
 
 // Adds the letters for one of Latin-1: the first one great where it is, and all where the name has no small letter.
@@ -54,7 +66,8 @@ struct Spelling {
     is_great: bool,
 }
 
-// Adds a byte in letters that a name may have. In UTF-8 a letter of Latin-1 is 0xC3 and its number less 0x40.
+// Adds a byte in letters that a name may have. In UTF-8 a letter of Latin-1 is 0xC3 and its number less 0x40, and MacOS writes an umlaut as a letter
+// with two dots behind it, 0xCC 0x88.
 fn push_byte(name: &mut Vec<u8>, spelling: Spelling, before: u8, byte: u8) -> Result<(), NoMemory> {
     if is_name_byte(byte) {
         append(name, &[&[byte]])
@@ -64,8 +77,10 @@ fn push_byte(name: &mut Vec<u8>, spelling: Spelling, before: u8, byte: u8) -> Re
         push_letters(name, byte, spelling.is_great)
     } else if before == 0xC3 {
         push_letters(name, byte.saturating_add(0x40), spelling.is_great)
+    } else if before == 0xCC && byte == 0x88 {
+        append(name, &[if spelling.is_great { b"E" } else { b"e" }])
     } else {
-        Ok(())
+        append(name, &[lookalike(&[before, byte])])
     }
 }
 

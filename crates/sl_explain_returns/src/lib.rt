@@ -1,7 +1,8 @@
 //! Explains why returns are refused: the cell or the record that is at fault, what it holds, and what to write, in English or in German. Takes what
 //! the reader of returns hands on, and the place of a cell from its scanner, so no text is split here.
 //!
-//! Stands on `sl_explain_texts` and `sl_returns_places`; used by the room explain. Proved: the code of each explanation is that of the fault.
+//! Stands on `sl_explain_texts` and `sl_returns_places`; used by the room explain. Proved: the code of each explanation is that of the fault,
+//! and its place begins at a cell of the record that is refused.
 //!
 //! Where an error is `NoMemory` alone, memory ran out, and nothing else is wrong.
 #![tactic(auto)]

@@ -1,6 +1,7 @@
 //! Cells that hold no number, or one out of its range.
 
 ghost use Rattle.std.specs.Prelude.{◌≡◌, IfOk, Some};
+ghost use Rattle.sl_explain_returns.specs.Places.{Explains};
 ghost use Rattle.sl_explain_texts.specs.declared.code.FaultCode.TheVariants.{R05, R06};
 ghost use Rattle.sl_explain_texts.specs.Explainers.{Keeps};
 ghost use Rattle.sl_explain_texts.specs.Messages.{IsFilledBy};
@@ -59,7 +60,7 @@ fn form_messages(form: Form) -> (&'static Message, &'static Message)
         Form::Exponent => (&texts::EXPONENT, &texts::WRITE_DIGITS),
         Form::Date => (&texts::DATE, &texts::NOT_A_DATE),
         Form::Separated => (&texts::SEPARATED, &texts::WRITE_WHOLE),
-        Form::Decimal => (&texts::DECIMAL, &texts::WRITE_WHOLE),
+        Form::Decimal => (&texts::DECIMAL, &texts::NO_SHARES),
         Form::Percent => (&texts::PERCENT, &texts::NO_PERCENT),
         Form::Other => (&texts::OTHER_CHARACTER, &texts::WRITE_WHOLE),
     }
@@ -79,6 +80,7 @@ fn remedy_for<'a>(
         (Quantity::Counted, Form::Empty | Form::Missing) if is_number(case.text(A)) => {
             (&texts::WRITE_COUNTED, case.text(A))
         }
+        (Quantity::Valid, Form::Empty | Form::Missing) => (&texts::WRITE_VALID, &[]),
         (Quantity::Minority, Form::Other) => (&texts::FLAG, &[]),
         _ => (remedy, &[]),
     }
@@ -97,7 +99,7 @@ fn add_form(case: &Case<'_>, form: Form, explainer: &mut Explainer)
 
 /// The explanation of a cell that is no number.
 pub(crate) fn explain_number(case: &Case<'_>) -> Result<Explainer, NoMemory>
-    ensures { IfOk result (λ x. x.code ≡ Some R05) }
+    ensures { IfOk result (Explains case.now (Some R05)) }
 {
     let Some((column, quantity)) = quantity_at(case) else {
         return case.explains_row(FaultCode::R05);
@@ -123,11 +125,11 @@ fn range_remedy(quantity: Quantity, cell: &[u8]) -> &'static Message
     match quantity {
         Quantity::First if cell == b"0".as_slice() => &texts::WINNER_WITHOUT_VOTES,
         Quantity::Minority => &texts::FLAG,
+        Quantity::Slate => &texts::NAMES_LEFT,
         Quantity::House
         | Quantity::Population
         | Quantity::Valid
         | Quantity::Counted
-        | Quantity::Slate
         | Quantity::First
         | Quantity::ValidFirst => &texts::LOOK,
     }
@@ -135,7 +137,7 @@ fn range_remedy(quantity: Quantity, cell: &[u8]) -> &'static Message
 
 // A winner with more first votes than there are.
 fn explain_first(case: &Case<'_>) -> Explainer
-    ensures { result.code ≡ Some R06 }
+    ensures { Explains case.now (Some R06) result }
 {
     let values = [case.text(B), case.text(C)];
     let span = case.between(B, C);
@@ -145,7 +147,7 @@ fn explain_first(case: &Case<'_>) -> Explainer
 
 /// The explanation of a number out of its range: that of a cell, or a winner's first votes, which are more than there are.
 pub(crate) fn explain_range(case: &Case<'_>) -> Result<Explainer, NoMemory>
-    ensures { IfOk result (λ x. x.code ≡ Some R06) }
+    ensures { IfOk result (Explains case.now (Some R06)) }
 {
     let Some((column, quantity)) = quantity_at(case) else {
         return Ok(explain_first(case));

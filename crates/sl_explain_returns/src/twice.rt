@@ -1,6 +1,7 @@
 //! What a record before has given, and what is more than there may be.
 
 ghost use Rattle.std.specs.Prelude.{◌≡◌, IfOk, Some};
+ghost use Rattle.sl_explain_returns.specs.Places.{Explains};
 ghost use Rattle.sl_explain_texts.specs.declared.code.FaultCode.TheVariants.{R08, R09, R10};
 ghost use Rattle.sl_explain_texts.specs.Explainers.{Keeps};
 ghost use Rattle.sl_explain_texts.specs.Messages.{IsFilledBy};
@@ -42,7 +43,7 @@ fn with_first(
 
 // A name that is declared a second time.
 fn explain_name_twice(case: &Case<'_>, column: usize, named: Named) -> Result<Explainer, NoMemory>
-    ensures { IfOk result (λ x. x.code ≡ Some R08) }
+    ensures { IfOk result (Explains case.now (Some R08)) }
 {
     let values = [case.text(column)];
     let explainer = case.says(
@@ -56,7 +57,7 @@ fn explain_name_twice(case: &Case<'_>, column: usize, named: Named) -> Result<Ex
 
 // A house that is given a second time.
 fn explain_house_twice(case: &Case<'_>) -> Result<Explainer, NoMemory>
-    ensures { IfOk result (λ x. x.code ≡ Some R08) }
+    ensures { IfOk result (Explains case.now (Some R08)) }
 {
     let explainer = case.says(FaultCode::R08, &texts::HOUSE_TWICE, &[], case.whole());
     with_first(case, explainer, &[KIND], &texts::FIRST_HOUSE)
@@ -64,7 +65,7 @@ fn explain_house_twice(case: &Case<'_>) -> Result<Explainer, NoMemory>
 
 // A list that is given a second time.
 fn explain_list_twice(case: &Case<'_>) -> Result<Explainer, NoMemory>
-    ensures { IfOk result (λ x. x.code ≡ Some R08) }
+    ensures { IfOk result (Explains case.now (Some R08)) }
 {
     let values = [case.text(PARTY), case.text(LAND)];
     let explainer = case.says(FaultCode::R08, &texts::LIST_TWICE, &values, case.whole());
@@ -74,7 +75,7 @@ fn explain_list_twice(case: &Case<'_>) -> Result<Explainer, NoMemory>
 
 // A lot that is given a second time.
 fn explain_lot_twice(case: &Case<'_>) -> Result<Explainer, NoMemory>
-    ensures { IfOk result (λ x. x.code ≡ Some R08) }
+    ensures { IfOk result (Explains case.now (Some R08)) }
 {
     let explainer = case.says(FaultCode::R08, &texts::LOT_TWICE, &[], case.whole());
     with_first(
@@ -87,7 +88,7 @@ fn explain_lot_twice(case: &Case<'_>) -> Result<Explainer, NoMemory>
 
 // A record that is given a second time.
 fn explain_record_twice(case: &Case<'_>) -> Result<Explainer, NoMemory>
-    ensures { IfOk result (λ x. x.code ≡ Some R08) }
+    ensures { IfOk result (Explains case.now (Some R08)) }
 {
     match case.kind() {
         Some(Kind::List) => explain_list_twice(case),
@@ -100,7 +101,7 @@ fn explain_record_twice(case: &Case<'_>) -> Result<Explainer, NoMemory>
 
 /// The explanation of what is given a second time: the name of a column, or the record.
 pub(crate) fn explain_twice(case: &Case<'_>, column: Option<usize>) -> Result<Explainer, NoMemory>
-    ensures { IfOk result (λ x. x.code ≡ Some R08) }
+    ensures { IfOk result (Explains case.now (Some R08)) }
 {
     let Some(column) = column else {
         return explain_record_twice(case);
@@ -113,7 +114,7 @@ pub(crate) fn explain_twice(case: &Case<'_>, column: Option<usize>) -> Result<Ex
 
 /// The explanation of more counted votes than valid ones.
 pub(crate) fn explain_counted(case: &Case<'_>) -> Explainer
-    ensures { result.code ≡ Some R09 }
+    ensures { Explains case.now (Some R09) result }
 {
     let values = [case.text(B), case.text(A)];
     let span = case.between(A, B);
@@ -138,7 +139,7 @@ fn limit_of(case: &Case<'_>) -> (&'static Message, &'static Message, usize, usiz
 
 /// The explanation of more records of a kind than there may be.
 pub(crate) fn explain_too_many(case: &Case<'_>) -> Result<Explainer, NoMemory>
-    ensures { IfOk result (λ x. x.code ≡ Some R10) }
+    ensures { IfOk result (Explains case.now (Some R10)) }
 {
     let (sentence, remedy, before, greatest) = limit_of(case);
     let number = case.speaker.number(before.saturating_add(1))?;

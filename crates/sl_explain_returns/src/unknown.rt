@@ -1,6 +1,7 @@
 //! Names that no record before declares.
 
 ghost use Rattle.std.specs.Prelude.{◌≡◌, IfOk, IfSome, Some};
+ghost use Rattle.sl_explain_returns.specs.Places.{Explains};
 ghost use Rattle.sl_explain_texts.specs.declared.code.FaultCode.TheVariants.{R07};
 ghost use Rattle.sl_explain_texts.specs.Explainers.{Keeps};
 ghost use Rattle.sl_explain_texts.specs.Messages.{IsFilledBy};
@@ -23,6 +24,10 @@ const SUMS: [&[u8]; 7] = [
     b"bund",
     b"bundesgebiet",
 ];
+
+// What is written for a winner without a party, in small letters.
+#[rattlefmt::skip]
+const WITHOUT_PARTY: [&[u8]; 8] = [b"parteilos", b"none", b"independent", b"einzelbewerber", b"unabhaengig", b"ohne", b"keine", b"na"];
 
 // What is said of a name, and how it is declared.
 fn name_messages(named: Named) -> (&'static Message, &'static Message)
@@ -90,12 +95,31 @@ fn exchanged(case: &Case<'_>, named: Named, name: &[u8]) -> Option<&'static Mess
     }
 }
 
-// Whether a row of sums is called so.
-fn is_sum(name: &[u8]) -> bool {
-    SUMS.iter().any(|word| name.eq_ignore_ascii_case(word))
+// Whether a name is one of these words, which stand in small letters.
+fn is_one_of(words: &[&[u8]], name: &[u8]) -> bool {
+    words.iter().any(|word| name.eq_ignore_ascii_case(word))
 }
 
-// Adds a name that is near, or that a row of sums is deleted.
+// A name without the zeros at its beginning.
+fn without_zeros(name: &[u8]) -> &[u8] {
+    let zeros = name.iter().take_while(|byte| **byte == b'0').count();
+    name.get(zeros..).unwrap_or(name)
+}
+
+// The name that differs by zeros at the beginning alone, or else one that is near.
+fn likely_name<'a>(
+    alloc: Global,
+    name: &[u8],
+    names: &[&'a [u8]],
+) -> Result<Option<&'a [u8]>, NoMemory> {
+    let number = without_zeros(name);
+    match names.iter().find(|other| without_zeros(other) == number) {
+        Some(other) => Ok(Some(*other)),
+        None => nearest(alloc, name, names),
+    }
+}
+
+// Adds a name that is likely meant, or that a row of sums is deleted.
 fn add_nearest(
     case: &Case<'_>,
     named: Named,
@@ -104,13 +128,13 @@ fn add_nearest(
 ) -> Result<(), NoMemory>
     ensures { Keeps explainer.old explainer.new }
 {
-    if is_sum(name) {
+    if is_one_of(&SUMS, name) {
         explainer.helps(&texts::NO_SUMS, &[]);
         return Ok(());
     }
     let alloc = case.speaker.alloc;
     let names = names_of(alloc, case.taken, case.refused.before, named)?;
-    if let Some(near) = nearest(alloc, name, names.as_slice())? {
+    if let Some(near) = likely_name(alloc, name, names.as_slice())? {
         explainer.helps(&texts::NEAREST_NAME, &[near]);
     }
     Ok(())
@@ -141,7 +165,7 @@ fn known_name_at(case: &Case<'_>) -> Option<(usize, Named)> {
 
 /// The explanation of a name that no record before declares.
 pub(crate) fn explain_unknown(case: &Case<'_>) -> Result<Explainer, NoMemory>
-    ensures { IfOk result (λ x. x.code ≡ Some R07) }
+    ensures { IfOk result (Explains case.now (Some R07)) }
 {
     let Some((column, named)) = known_name_at(case) else {
         return case.explains_row(FaultCode::R07);
@@ -153,6 +177,9 @@ pub(crate) fn explain_unknown(case: &Case<'_>) -> Result<Explainer, NoMemory>
         explainer.helps_with(&texts::LATER, case.speaker.number(case.line(row)));
     } else if let Some(message) = exchanged(case, named, name) {
         explainer.helps(message, &[name]);
+    } else if case.kind() == Some(Kind::Win) && is_one_of(&WITHOUT_PARTY, name) {
+        let values = [case.text(LAND), case.text(A)];
+        explainer.helps(&texts::NO_PARTY_OF_WINNER, &values);
     } else {
         add_nearest(case, named, name, &mut explainer)?;
         explainer.helps(declaration, &[name]);

@@ -1,13 +1,9 @@
 -- How an explanation begins on the page (docs/explanations.md).
-use Rattle.std.specs.Prelude.{List, None, Option, Some, codes, ◌++◌, ◌≡◌, ℕ}
+use Rattle.std.specs.Prelude.{List, None, Option, Some, codes, ◌++◌, ℕ}
 use Rattle.sl_explain_texts.specs.Codes.{code_word}
 use Rattle.sl_explain_texts.specs.Languages.{error_word}
 use Rattle.sl_explain_texts.specs.declared.code.FaultCode.{FaultCode}
 use Rattle.sl_explain_texts.specs.declared.language.Language.{Language}
-
--- a text begins with some bytes
-abbrev pub Begins : List ℕ → List ℕ → Type 0
-Begins first text = (rest : List ℕ) × (text ≡ first ++ rest)
 
 -- the word for an error, and the code of the fault in brackets, if it is of one: as `error[B05]: `
 abbrev pub head_of : Language → Option FaultCode → List ℕ

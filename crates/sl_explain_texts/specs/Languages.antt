@@ -1,16 +1,38 @@
 -- Messages in a language, and which language is asked for (docs/explanations.md, section 2).
+use denote.Ref.{Bor}
 use Rattle.std.specs.List.{starts_with}
 use Rattle.std.specs.Prelude.{ℕ, List, Option, codes, find, nat_eq}
 use Rattle.std.specs.Str.{bytes_eq}
 use Rattle.sl_explain_texts.specs.declared.language.Language.TheVariants.{English, German}
+use Rattle.sl_explain_texts.specs.declared.code.FaultCode.{FaultCode}
 use Rattle.sl_explain_texts.specs.declared.language.Language.{Language}
-use Rattle.sl_explain_texts.specs.declared.message.Message.{Message}
 use Rattle.sl_explain_texts.specs.declared.language.TheConstants.{LANGUAGES}
 
--- the text of a message in a language
-abbrev pub in_language : Language → Message → List ℕ
-in_language English m = m.0.now
-in_language German m = m.1.now
+-- a message, in English and in German
+abbrev pub Message : Type 0
+Message = List ℕ × List ℕ
+
+-- the message that is lent, and that of a row of texts; and where the code of a fault stands before them
+abbrev pub lent : Bor (List ℕ) × Bor (List ℕ) → Message
+lent m = (m.0.now, m.1.now)
+
+abbrev pub lent_of_fault : FaultCode × Bor (List ℕ) × Bor (List ℕ) → Message
+lent_of_fault s = (s.1.now, s.2.now)
+
+abbrev pub row : record { now : List ℕ } × record { now : List ℕ } → Message
+row m = (m.0.now, m.1.now)
+
+abbrev pub row_of_fault : FaultCode × record { now : List ℕ } × record { now : List ℕ } → Message
+row_of_fault s = (s.1.now, s.2.now)
+
+-- of a text in English and the same in German, that in a language
+abbrev pub chosen : Language → (english german : List ℕ) → List ℕ
+chosen English english german = english
+chosen German english german = german
+
+-- the text of a message that is lent in a language
+abbrev pub in_language : Language → Bor (List ℕ) × Bor (List ℕ) → List ℕ
+in_language language m = chosen language m.0.now m.1.now
 
 -- the word that asks for a language
 abbrev pub language_word : Language → List ℕ

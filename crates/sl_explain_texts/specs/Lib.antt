@@ -6,3 +6,5 @@ pub mod Heads
 pub mod Languages
 pub mod Lines
 pub mod Messages
+pub mod Pages
+pub mod Shown

@@ -1,11 +1,11 @@
 //! Explanations as they are put together: first the sentence, then what to do.
 
 ghost use Rattle.std.specs.Prelude.{◌≡◌, IfOk, length};
-ghost use Rattle.sl_explain_texts.specs.Explainers.{Keeps};
+ghost use Rattle.sl_explain_texts.specs.Explainers.{Keeps, KeepsWith, Makes};
 ghost use Rattle.sl_explain_texts.specs.Messages.{IsFilledBy};
 
 use crate::code::FaultCode;
-use crate::explanation::{Explanation, Remedy, Span};
+use crate::explanation::{Explanation, Span};
 use crate::filled::Filled;
 use crate::message::Message;
 use crate::names::nearest;
@@ -20,23 +20,16 @@ pub struct Explainer {
     pub(crate) code: Option<FaultCode>,
     pub(crate) span: Option<Span>,
     pub(crate) sentence: Result<Vec<u8>, NoMemory>,
-    pub(crate) remedies: Filled<Remedy>,
+    pub(crate) remedies: Filled<Vec<u8>>,
+    pub(crate) records: Result<Vec<Vec<u8>>, NoMemory>,
     pub(crate) lines: Filled<Vec<u8>>,
-}
-
-// A text as what to do.
-fn sentence(text: Result<Vec<u8>, NoMemory>) -> Result<Remedy, NoMemory> {
-    Ok(Remedy::Sentence(text?))
-}
-
-// A record as what to do.
-fn record(text: Result<Vec<u8>, NoMemory>) -> Result<Remedy, NoMemory> {
-    Ok(Remedy::Record(text?))
 }
 
 impl Explainer {
     /// Who is spoken to.
-    pub fn speaker(&self) -> Speaker {
+    pub fn speaker(&self) -> Speaker
+        ensures { result ≡ self.now.speaker }
+    {
         self.speaker
     }
 
@@ -46,7 +39,7 @@ impl Explainer {
         ensures { Keeps self.old self.new }
     {
         let text = self.speaker.text(message, values);
-        self.remedies.push(sentence(text));
+        self.remedies.push(text);
     }
 
     /// Adds what to do, by a value that was made, unless making it found no memory.
@@ -55,7 +48,7 @@ impl Explainer {
         ensures { Keeps self.old self.new }
     {
         let text = self.speaker.text_with(message, value);
-        self.remedies.push(sentence(text));
+        self.remedies.push(text);
     }
 
     /// The explanation with one sentence more on what to do.
@@ -68,11 +61,11 @@ impl Explainer {
         explainer
     }
 
-    /// Adds a record that may be added to the returns.
-    pub fn record(&mut self, text: Result<Vec<u8>, NoMemory>)
-        ensures { Keeps self.old self.new }
+    /// Gives the records that may be added to the returns, of which the first remedy speaks.
+    pub fn gives_records(&mut self, records: Result<Vec<Vec<u8>>, NoMemory>)
+        ensures { KeepsWith self.old self.new records }
     {
-        self.remedies.push(record(text));
+        self.records = records;
     }
 
     /// Adds a line that stands after all else.
@@ -102,14 +95,14 @@ impl Explainer {
 
     /// The explanation, if all of it found memory.
     pub fn finished(self) -> Result<Explanation, NoMemory>
-        ensures code { IfOk result (λ x. x.code ≡ self.code) }
-        ensures span { IfOk result (λ x. x.span ≡ self.span) }
+        ensures { IfOk result (Makes self) }
     {
         Ok(Explanation {
             code: self.code,
             span: self.span,
             sentence: self.sentence?,
             remedies: self.remedies.finished()?,
+            records: self.records?,
             lines: self.lines.finished()?,
         })
     }

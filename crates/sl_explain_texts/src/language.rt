@@ -1,7 +1,9 @@
 //! The languages. A new one is a variant here, and one more field of each message.
 
 ghost use Rattle.std.specs.Prelude.{◌≡◌};
-ghost use Rattle.sl_explain_texts.specs.Languages.{error_word, language_of, language_word, locale_language, warning_word};
+ghost use Rattle.sl_explain_texts.specs.Languages.{error_word, in_language, language_of, language_word, locale_language, warning_word};
+
+use crate::message::Message;
 
 /// The language in which a person is spoken to.
 #[derive(Clone, Copy, PartialEq, Eq)]
@@ -17,6 +19,16 @@ pub const LANGUAGES: [Language; 2] = [Language::German, Language::English];
 pub const LANGUAGE_WORDS: [&str; 2] = ["de", "en"];
 
 impl Language {
+    /// A message in the language.
+    pub fn text(self, message: &Message) -> &'static str
+        ensures { result.now ≡ in_language self message.now }
+    {
+        match self {
+            Language::English => message.0,
+            Language::German => message.1,
+        }
+    }
+
     /// The word that asks for it.
     pub fn word(self) -> &'static str
         ensures { result.now ≡ language_word self }

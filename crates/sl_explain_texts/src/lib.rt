@@ -1,7 +1,8 @@
 //! Explanations for people: a sentence with the code of the fault, the place in a file, the line that stands there with a mark, and what to do, in
 //! English or in German.
 //!
-//! Stands on `sl_base_quotients`; used by the rooms explain, report and terminal. Proved: an explanation begins with its code.
+//! Stands on `sl_base_quotients`; used by the rooms explain, report and terminal. Proved: what a message says with
+//! its values, and an explanation as it is written, to the byte.
 //!
 //! Where an error is `NoMemory` alone, memory ran out, and nothing else is wrong.
 #![tactic(auto)]
@@ -24,7 +25,7 @@ mod texts;
 
 pub use code::{CODES, FaultCode};
 pub use explainer::Explainer;
-pub use explanation::{Explanation, Remedy, Span};
+pub use explanation::{Explanation, Span};
 pub use filled::Filled;
 pub use language::{LANGUAGE_WORDS, LANGUAGES, Language};
 pub use line::{Line, line_at};

@@ -1,7 +1,7 @@
 //! Lines and columns of a text, as an editor counts them.
 
 ghost use Rattle.std.specs.Prelude.{◌≡◌, ◌<◌, length};
-ghost use Rattle.sl_explain_texts.specs.Lines.{byte_at, ends_line, line_number};
+ghost use Rattle.sl_explain_texts.specs.Lines.{byte_at, column_of, ends_line, line_number, line_start, line_text};
 
 use crate::parts::{first_line, from, until};
 use crate::shown::shown_count;
@@ -36,7 +36,10 @@ fn ends_line(text: &[u8], at: usize) -> bool
 
 /// The line in which the byte at that offset stands. An offset after the text stands at its end.
 pub fn line_at(text: &[u8], at: usize) -> Line<'_>
-    ensures { result.number ≡ line_number text.now at }
+    ensures number { result.number ≡ line_number text.now at }
+    ensures start { result.start ≡ line_start text.now at }
+    ensures text { result.text.now ≡ line_text text.now at }
+    ensures column { result.column ≡ column_of text.now at }
 {
     let mut number = 1usize;
     let mut start = 0usize;

@@ -6,8 +6,8 @@ pub(crate) use rows::*;
 mod rows {
     use crate::message::Message;
 
-    pub(crate) const HELP: Message = Message("  = help: ", "  = Hilfe: ");
-    pub(crate) const OR: Message = Message(" or ", " oder ");
-    pub(crate) const AND: Message = Message(" and ", " und ");
-    pub(crate) const MEANT: Message = Message("did you mean `{name}`?", "ist `{name}` gemeint?");
+    pub(crate) const HELP: Message = ("  = help: ", "  = Hilfe: ");
+    pub(crate) const OR: Message = (" or ", " oder ");
+    pub(crate) const AND: Message = (" and ", " und ");
+    pub(crate) const MEANT: Message = ("did you mean `{name}`?", "ist `{name}` gemeint?");
 }

@@ -6,11 +6,11 @@ ghost use Rattle.sl_explain_calls.specs.Codes.{subject_of};
 use sl_base_quotients::NoMemory;
 use sl_count_inputs::RefusedBook;
 use sl_explain_calls::{Explained, explain_book};
-use sl_explain_texts::{Language, Message, push_shown};
+use sl_explain_texts::{Language, Message, Speaker, push_shown};
 use std::alloc::Global;
 
 // A line on a rulebook that is refused, by the word that names it.
-const ALSO: Message = Message(
+const ALSO: Message = (
     "also refused: {word}: {sentence}",
     "auch abgelehnt: {word}: {sentence}",
 );
@@ -25,7 +25,7 @@ fn line_on(
     let mut shown: Vec<u8> = Vec::new(alloc);
     push_shown(&mut shown, word.as_bytes())?;
     let values = [shown.as_slice(), own.explanation.sentence()];
-    ALSO.text(alloc, language, &values)
+    Speaker { alloc, language }.text(&ALSO, &values)
 }
 
 /// Adds a line on a further rulebook of this text that is refused: the word that names it, and the sentence of its own explanation.

@@ -2,14 +2,14 @@
 use Rattle.std.specs.Prelude.{ℕ, List, [], ◌++◌, true, false, codes, nat_lt, string_bytes, if◌then◌else◌}
 use Rattle.std.specs.Fmt.{decimal}
 use Rattle.std.specs.Int.{abs_diff}
-use Rattle.sl_explain_texts.specs.Languages.{in_language}
+use Rattle.sl_explain_texts.specs.Languages.{chosen, in_language}
 use Rattle.sl_explain_texts.specs.declared.language.Language.TheVariants.{English}
 use Rattle.sl_explain_texts.specs.declared.language.Language.{Language}
 use Rattle.sl_law_margins.specs.Decimals.{number_text}
 use Rattle.sl_law_meaning.specs.declared.fault.Item.{Item}
 use Rattle.sl_law_meaning.specs.declared.fault.Scope.TheVariants as scopes
 use Rattle.sl_law_meaning.specs.declared.fault.Scope.{Scope}
-use Rattle.sl_report_forms.specs.NameTexts.{condition_text, list_text, scope_name, scope_text, stage_text, text_in, word_of}
+use Rattle.sl_report_forms.specs.NameTexts.{condition_text, list_text, scope_name, scope_text, stage_text, text_in}
 use Rattle.sl_report_forms.specs.declared.cell.Cell.TheVariants as cell
 use Rattle.sl_report_forms.specs.declared.cell.Cell.{Cell}
 use Rattle.sl_report_forms.specs.declared.cell.Reader.TheVariants.{Person, Program}
@@ -48,8 +48,8 @@ text_for reader n (cell.Number number) = decimal number
 text_for reader n (cell.Decimal number) = number_text number
 text_for reader n (cell.Fraction num den) = fraction_text num den
 text_for reader n (cell.Change number before) = change_text reader number before
-text_for reader n (cell.Flag true) = word_of (codes "yes") (codes "ja") (language_for reader)
-text_for reader n (cell.Flag false) = word_of (codes "no") (codes "nein") (language_for reader)
+text_for reader n (cell.Flag true) = chosen (language_for reader) (codes "yes") (codes "ja")
+text_for reader n (cell.Flag false) = chosen (language_for reader) (codes "no") (codes "nein")
 text_for reader n (cell.Word word) = in_language (language_for reader) word
 text_for reader n (cell.Condition cond) = condition_text (language_for reader) cond
 text_for reader n (cell.Stage stage) = stage_text n stage

@@ -1,8 +1,8 @@
 -- What stands over columns and sheets: in CSV and in JSON the key of a column, and for a person its head and the title of the sheet, in a language.
 use Rattle.std.specs.Prelude.{ℕ, List, ◌++◌, codes, string_bytes}
-use Rattle.sl_explain_texts.specs.Languages.{in_language}
+use Rattle.sl_explain_texts.specs.Languages.{chosen, in_language}
 use Rattle.sl_explain_texts.specs.declared.language.Language.{Language}
-use Rattle.sl_report_forms.specs.NameTexts.{scope_name, stage_text, word_of}
+use Rattle.sl_report_forms.specs.NameTexts.{scope_name, stage_text}
 use Rattle.sl_report_forms.specs.declared.names.Names.{Names}
 use Rattle.sl_report_forms.specs.declared.sheet.Head.TheVariants.{Column, Word}
 use Rattle.sl_report_forms.specs.declared.sheet.Head.{Head}
@@ -16,7 +16,7 @@ head_key (Column c) = c.0.now
 head_key (Word w) = string_bytes w
 
 abbrev pub head_text : Language → Head → List ℕ
-head_text language (Column c) = word_of c.1.now c.2.now language
+head_text language (Column c) = chosen language c.1.now c.2.now
 head_text language (Word w) = string_bytes w
 
 -- numbers stand under a word

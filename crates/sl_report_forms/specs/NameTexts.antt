@@ -2,7 +2,7 @@
 use Rattle.std.specs.Prelude.{ℕ, List, [], ◌++◌, codes, option_map, slice_get, string_bytes, unwrap_or}
 use Rattle.std.specs.Fmt.{decimal}
 use Rattle.std.specs.List.{join_by}
-use Rattle.sl_explain_texts.specs.declared.language.Language.TheVariants.{English, German}
+use Rattle.sl_explain_texts.specs.Languages.{chosen}
 use Rattle.sl_explain_texts.specs.declared.language.Language.{Language}
 use Rattle.sl_law_meaning.specs.declared.book.Cond.TheVariants as cond
 use Rattle.sl_law_meaning.specs.declared.book.Cond.{Cond}
@@ -15,14 +15,9 @@ use Rattle.sl_report_forms.specs.declared.names.Length.{Length}
 use Rattle.sl_report_forms.specs.declared.names.Name.{Name}
 use Rattle.sl_report_forms.specs.declared.names.Names.{Names}
 
--- a word of a language
-abbrev pub word_of : (english german : List ℕ) → Language → List ℕ
-word_of english german English = english
-word_of english german German = german
-
 -- the word for all Länder and parties together, and for a single number
 abbrev pub all_word : Language → List ℕ
-all_word language = word_of (codes "all") (codes "alle") language
+all_word language = chosen language (codes "all") (codes "alle")
 
 -- ---- names
 
@@ -80,7 +75,7 @@ scope_name language n (scope.List land party) = entry_text n Full (item.List lan
 
 -- a condition in few words
 abbrev pub condition_text : Language → Cond → List ℕ
-condition_text language (cond.Valid share per) = decimal share.value ++ codes " " ++ word_of (codes "per") (codes "je") language ++ codes " " ++ decimal per
-condition_text language (cond.Winners least) = decimal least ++ codes " " ++ word_of (codes "winners") (codes "Wahlkreise") language
-condition_text language cond.Minority = word_of (codes "minority") (codes "Minderheit") language
+condition_text language (cond.Valid share per) = decimal share.value ++ codes " " ++ chosen language (codes "per") (codes "je") ++ codes " " ++ decimal per
+condition_text language (cond.Winners least) = decimal least ++ codes " " ++ chosen language (codes "winners") (codes "Wahlkreise")
+condition_text language cond.Minority = chosen language (codes "minority") (codes "Minderheit")
 condition_text language cond.All = all_word language

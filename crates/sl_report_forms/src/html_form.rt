@@ -19,28 +19,25 @@ use std::alloc::Global;
 static TITLES: [(&str, Message); 5] = [
     (
         "report",
-        Message("Report on a count", "Bericht über eine Auszählung"),
+        ("Report on a count", "Bericht über eine Auszählung"),
     ),
     (
         "report --short",
-        Message("Result of a count", "Ergebnis einer Auszählung"),
+        ("Result of a count", "Ergebnis einer Auszählung"),
     ),
-    (
-        "stages",
-        Message("Stages of a count", "Stufen einer Auszählung"),
-    ),
+    ("stages", ("Stages of a count", "Stufen einer Auszählung")),
     (
         "totals",
-        Message("Totals of returns", "Summen von Wahlergebnissen"),
+        ("Totals of returns", "Summen von Wahlergebnissen"),
     ),
     (
         "compare",
-        Message("Rulebooks side by side", "Regelwerke im Vergleich"),
+        ("Rulebooks side by side", "Regelwerke im Vergleich"),
     ),
 ];
 
 // The code of a language, as the head of a page names it.
-static LANGUAGE: Message = Message("en", "de");
+static LANGUAGE: Message = ("en", "de");
 
 static STYLE: &str = ":root { color-scheme: light dark; }
 body { max-width: 64rem; margin: 1rem auto; padding: 0 1rem; font: 1rem/1.4 system-ui, sans-serif; }
@@ -219,7 +216,7 @@ fn put_sheets(out: &mut Draft, sheets: &[Shown])
 fn title_of(language: Language, command: &'static str) -> &'static str {
     for (name, title) in &TITLES {
         if *name == command {
-            return title.in_language(language);
+            return language.text(title);
         }
     }
     command
@@ -261,7 +258,7 @@ fn put_title(out: &mut Draft, title: &str, law: Option<&str>)
 fn language_code(language: Language) -> &'static str
     ensures { result.now ≡ spec.language_code language }
 {
-    LANGUAGE.in_language(language)
+    language.text(&LANGUAGE)
 }
 
 // Adds the head of a page.

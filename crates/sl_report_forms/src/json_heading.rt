@@ -11,7 +11,7 @@ use crate::heading::{DigestedInput, Heading, Told};
 use crate::json_values::{Members, array_value, bytes_value};
 use serde_json::Value;
 use sl_base_quotients::NoMemory;
-use sl_explain_texts::{FaultCode, Filled, Remedy, Span, VERSION, line_at};
+use sl_explain_texts::{FaultCode, Filled, Span, VERSION, line_at};
 use std::alloc::Global;
 
 /// The version of the JSON, as docs/report.schema.json has it.
@@ -75,42 +75,14 @@ fn maybe_place(alloc: Global, told: Told<'_>) -> Result<Value, NoMemory>
     }
 }
 
-// The sentences on what to do.
+// Texts, in their order.
 #[tactic(auto, using(crate::proofs::JsonDepths::made_within))]
-fn help_value(alloc: Global, remedies: &[Remedy]) -> Result<Value, NoMemory>
+fn texts_value(alloc: Global, texts: &[Vec<u8>]) -> Result<Value, NoMemory>
     ensures { IfOk result (NestsWithin 1) }
 {
     let mut values = Filled::new(alloc);
-    for remedy in remedies {
-        if let Remedy::Sentence(text) = remedy {
-            values.push(bytes_value(alloc, text.as_slice()));
-        }
-    }
-    array_value(values)
-}
-
-// The records that may be added to the returns.
-#[tactic(auto, using(crate::proofs::JsonDepths::made_within))]
-fn records_value(alloc: Global, remedies: &[Remedy]) -> Result<Value, NoMemory>
-    ensures { IfOk result (NestsWithin 1) }
-{
-    let mut values = Filled::new(alloc);
-    for remedy in remedies {
-        if let Remedy::Record(text) = remedy {
-            values.push(bytes_value(alloc, text.as_slice()));
-        }
-    }
-    array_value(values)
-}
-
-// What else there is to say of the input.
-#[tactic(auto, using(crate::proofs::JsonDepths::made_within))]
-fn more_value(alloc: Global, lines: &[Vec<u8>]) -> Result<Value, NoMemory>
-    ensures { IfOk result (NestsWithin 1) }
-{
-    let mut values = Filled::new(alloc);
-    for line in lines {
-        values.push(bytes_value(alloc, line.as_slice()));
+    for text in texts {
+        values.push(bytes_value(alloc, text.as_slice()));
     }
     array_value(values)
 }
@@ -119,15 +91,14 @@ fn told_value(alloc: Global, told: Told<'_>) -> Result<Value, NoMemory>
     ensures { IfOk result (λ v. Explains told.entry (view v)) }
 {
     let explanation = told.explanation;
-    let remedies = explanation.remedies();
     let mut members = Members::new(alloc);
     members.put_text("code", explanation.code().map(FaultCode::word));
     members.put_text("input", Some(told.input));
     members.put("sentence", bytes_value(alloc, explanation.sentence()));
     members.put("place", maybe_place(alloc, told));
-    members.put("help", help_value(alloc, remedies));
-    members.put("records", records_value(alloc, remedies));
-    members.put("more", more_value(alloc, explanation.lines()));
+    members.put("help", texts_value(alloc, explanation.remedies()));
+    members.put("records", texts_value(alloc, explanation.records()));
+    members.put("more", texts_value(alloc, explanation.lines()));
     members.finished()
 }
 

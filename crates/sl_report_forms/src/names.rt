@@ -182,7 +182,7 @@ impl Names {
         ensures { IfOk result (λ t. string_bytes t ≡ spec.scope_name language self.now scope) }
     {
         match scope {
-            Scope::All => copied(alloc, ALL.in_language(language)),
+            Scope::All => copied(alloc, language.text(&ALL)),
             Scope::Land(land) => self.whole(alloc, Length::Full, Item::Land(land)),
             Scope::Party(party) => self.whole(alloc, Length::Full, Item::Party(party)),
             Scope::List(land, party) => self.whole(alloc, Length::Full, Item::List(land, party)),

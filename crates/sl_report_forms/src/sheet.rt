@@ -69,7 +69,7 @@ impl Head {
         ensures { result.now ≡ head_text language self.now }
     {
         match self {
-            Head::Column(column) => Message(column.1, column.2).in_language(language),
+            Head::Column(column) => language.text(&(column.1, column.2)),
             Head::Word(word) => word.as_str(),
         }
     }
@@ -109,12 +109,10 @@ impl Title {
         ensures { IfOk result (λ t. string_bytes t ≡ title_text language names.now self) }
     {
         match self {
-            Title::Words(words) => copied(alloc, words.in_language(language)),
-            Title::Stage(word, stage) => {
-                titled(alloc, word.in_language(language), names.stage(stage))
-            }
+            Title::Words(words) => copied(alloc, language.text(&words)),
+            Title::Stage(word, stage) => { titled(alloc, language.text(&word), names.stage(stage)) }
             Title::Scope(word, stage, scope) => {
-                let title = titled(alloc, word.in_language(language), names.stage(stage))?;
+                let title = titled(alloc, language.text(&word), names.stage(stage))?;
                 let scope = names.scope_name(alloc, language, scope)?;
                 titled_in(alloc, title.as_str(), scope.as_str())
             }

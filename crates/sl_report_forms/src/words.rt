@@ -10,18 +10,18 @@ use sl_law_meaning::Cond;
 use std::alloc::Global;
 
 /// The words for a flag.
-pub(crate) const YES: Message = Message("yes", "ja");
+pub(crate) const YES: Message = ("yes", "ja");
 
-pub(crate) const NO: Message = Message("no", "nein");
+pub(crate) const NO: Message = ("no", "nein");
 
 /// The word for all Länder and parties together, and for a single number.
-pub const ALL: Message = Message("all", "alle");
+pub const ALL: Message = ("all", "alle");
 
-const SHARE: Message = Message("per", "je");
+const SHARE: Message = ("per", "je");
 
-const WINNERS: Message = Message("winners", "Wahlkreise");
+const WINNERS: Message = ("winners", "Wahlkreise");
 
-const MINORITY: Message = Message("minority", "Minderheit");
+const MINORITY: Message = ("minority", "Minderheit");
 
 /// A condition in few words of a language.
 pub(crate) fn condition_text(
@@ -33,14 +33,14 @@ pub(crate) fn condition_text(
 {
     match cond {
         Cond::Valid { share, per } => {
-            let (share, word) = (share.value, SHARE.in_language(language));
+            let (share, word) = (share.value, language.text(&SHARE));
             Ok(format!(in alloc; "{share} {word} {per}")?)
         }
         Cond::Winners { least } => {
-            let word = WINNERS.in_language(language);
+            let word = language.text(&WINNERS);
             Ok(format!(in alloc; "{least} {word}")?)
         }
-        Cond::Minority => copied(alloc, MINORITY.in_language(language)),
-        Cond::All => copied(alloc, ALL.in_language(language)),
+        Cond::Minority => copied(alloc, language.text(&MINORITY)),
+        Cond::All => copied(alloc, language.text(&ALL)),
     }
 }

@@ -123,8 +123,8 @@ fn explanation_sheet(alloc: Global, told: &Explanation) -> Result<Sheet, NoMemor
         &EXPLANATION,
     )?;
     sheet.push(text_row(alloc, told.sentence())?)?;
-    for remedy in told.remedies() {
-        sheet.push(text_row(alloc, remedy.text())?)?;
+    for text in told.advice(alloc)?.as_slice() {
+        sheet.push(text_row(alloc, text)?)?;
     }
     Ok(sheet)
 }

@@ -37,7 +37,7 @@ pub(crate) fn party(party: Option<usize>) -> Cell
 
 /// The name of a party that a reader sees, or a word in its place.
 pub(crate) fn party_name(party: Option<usize>, otherwise: Message) -> Cell
-    ensures { content_of result ≡ party_name_cell party otherwise.0.now otherwise.1.now }
+    ensures { content_of result ≡ party_name_cell party otherwise.entry.0.now otherwise.entry.1.now }
 {
     match party {
         Some(party) => name(Item::Party(party)),
@@ -49,7 +49,7 @@ pub(crate) fn party_name(party: Option<usize>, otherwise: Message) -> Cell
 pub(crate) fn keyword(word: &'static str) -> Cell
     ensures { content_of result ≡ a_word word.now word.now }
 {
-    Cell::Word(Message(word, word))
+    Cell::Word((word, word))
 }
 
 /// The short name of the Land of an entry, if it has one.

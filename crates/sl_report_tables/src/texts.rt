@@ -8,62 +8,62 @@ mod rows {
 
     // ---- faults
 
-    pub(crate) const FAULT_TITLE: Message = Message("Legal fault", "Rechtlicher Fehler");
-    pub(crate) const EXPLANATION_TITLE: Message = Message("Explanation", "Erklärung");
-    pub(crate) const KIND_LIMIT: Message = Message("limit", "Grenze");
-    pub(crate) const KIND_SHORT: Message = Message("short", "zu wenig Sitze");
-    pub(crate) const KIND_NO_LIST: Message = Message("nolist", "keine Liste");
-    pub(crate) const KIND_TIE: Message = Message("tie", "Gleichstand");
-    pub(crate) const KIND_MAJORITY: Message = Message("majority", "Mehrheit");
-    pub(crate) const KIND_CAP: Message = Message("cap", "Obergrenze");
+    pub(crate) const FAULT_TITLE: Message = ("Legal fault", "Rechtlicher Fehler");
+    pub(crate) const EXPLANATION_TITLE: Message = ("Explanation", "Erklärung");
+    pub(crate) const KIND_LIMIT: Message = ("limit", "Grenze");
+    pub(crate) const KIND_SHORT: Message = ("short", "zu wenig Sitze");
+    pub(crate) const KIND_NO_LIST: Message = ("nolist", "keine Liste");
+    pub(crate) const KIND_TIE: Message = ("tie", "Gleichstand");
+    pub(crate) const KIND_MAJORITY: Message = ("majority", "Mehrheit");
+    pub(crate) const KIND_CAP: Message = ("cap", "Obergrenze");
 
     // ---- titles
 
-    pub(crate) const LAW_TITLE: Message = Message("Law", "Gesetz");
-    pub(crate) const PARTIES_TITLE: Message = Message("Parties", "Parteien");
-    pub(crate) const LISTS_TITLE: Message = Message("Lists", "Listen");
-    pub(crate) const DISTRIBUTIONS_TITLE: Message = Message("Distributions", "Verteilungen");
-    pub(crate) const STEPS_TITLE: Message = Message("Steps of the seats", "Schritte der Sitze");
-    pub(crate) const BOUNDS_TITLE: Message = Message("Bounds of the divisors",
+    pub(crate) const LAW_TITLE: Message = ("Law", "Gesetz");
+    pub(crate) const PARTIES_TITLE: Message = ("Parties", "Parteien");
+    pub(crate) const LISTS_TITLE: Message = ("Lists", "Listen");
+    pub(crate) const DISTRIBUTIONS_TITLE: Message = ("Distributions", "Verteilungen");
+    pub(crate) const STEPS_TITLE: Message = ("Steps of the seats", "Schritte der Sitze");
+    pub(crate) const BOUNDS_TITLE: Message = ("Bounds of the divisors",
         "Schranken der Divisoren");
-    pub(crate) const STAGES_TITLE: Message = Message("Stages", "Stufen");
+    pub(crate) const STAGES_TITLE: Message = ("Stages", "Stufen");
 
     /// The word before the name of a stage.
-    pub(crate) const STAGE_TITLE: Message = Message("Stage", "Stufe");
-    pub(crate) const COVERED_TITLE: Message = Message("Winners of lists with fewer seats, by share",
+    pub(crate) const STAGE_TITLE: Message = ("Stage", "Stufe");
+    pub(crate) const COVERED_TITLE: Message = ("Winners of lists with fewer seats, by share",
         "Wahlkreissieger von Listen mit weniger Sitzen, nach Anteil");
-    pub(crate) const SINGLES_TITLE: Message = Message("Winners who sit by themselves",
+    pub(crate) const SINGLES_TITLE: Message = ("Winners who sit by themselves",
         "Wahlkreissieger, die ohne Liste sitzen");
-    pub(crate) const OPEN_TITLE: Message = Message("Constituencies whose winners are not seated",
+    pub(crate) const OPEN_TITLE: Message = ("Constituencies whose winners are not seated",
         "Wahlkreise, deren Sieger keinen Sitz haben");
-    pub(crate) const TOTALS_TITLE: Message = Message("Totals", "Summen");
-    pub(crate) const LANDS_TITLE: Message = Message("Länder", "Länder");
-    pub(crate) const WINNERS_TITLE: Message = Message("Winners", "Wahlkreissieger");
-    pub(crate) const WARNINGS_TITLE: Message = Message("Warnings", "Warnungen");
-    pub(crate) const RULEBOOKS_TITLE: Message = Message("Rulebooks", "Regelwerke");
-    pub(crate) const COMPARED_TITLE: Message = Message("Seats by rulebook", "Sitze nach Regelwerk");
-    pub(crate) const CHANGES_TITLE: Message = Message("Seats more or fewer than by the first rulebook",
+    pub(crate) const TOTALS_TITLE: Message = ("Totals", "Summen");
+    pub(crate) const LANDS_TITLE: Message = ("Länder", "Länder");
+    pub(crate) const WINNERS_TITLE: Message = ("Winners", "Wahlkreissieger");
+    pub(crate) const WARNINGS_TITLE: Message = ("Warnings", "Warnungen");
+    pub(crate) const RULEBOOKS_TITLE: Message = ("Rulebooks", "Regelwerke");
+    pub(crate) const COMPARED_TITLE: Message = ("Seats by rulebook", "Sitze nach Regelwerk");
+    pub(crate) const CHANGES_TITLE: Message = ("Seats more or fewer than by the first rulebook",
         "Sitze mehr oder weniger als nach dem ersten Regelwerk");
-    pub(crate) const LIST_SEATS_TITLE: Message = Message("Seats of lists by rulebook",
+    pub(crate) const LIST_SEATS_TITLE: Message = ("Seats of lists by rulebook",
         "Sitze der Listen nach Regelwerk");
-    pub(crate) const EACH_TITLE: Message = Message("Seats of each party by each rulebook",
+    pub(crate) const EACH_TITLE: Message = ("Seats of each party by each rulebook",
         "Sitze jeder Partei nach jedem Regelwerk");
-    pub(crate) const PRESS_TITLE: Message = Message("Seats, constituencies and votes",
+    pub(crate) const PRESS_TITLE: Message = ("Seats, constituencies and votes",
         "Sitze, Wahlkreise und Stimmen");
-    pub(crate) const LAST_SEATS_TITLE: Message = Message("Last seats and next claims",
+    pub(crate) const LAST_SEATS_TITLE: Message = ("Last seats and next claims",
         "Letzte Sitze und nächste Ansprüche");
-    pub(crate) const LEFT_OUT_TITLE: Message = Message("The largest party that does not take part",
+    pub(crate) const LEFT_OUT_TITLE: Message = ("The largest party that does not take part",
         "Die größte Partei, die nicht teilnimmt");
 
     /// In place of the party of a winner who has none.
-    pub(crate) const NO_PARTY: Message = Message("-", "-");
+    pub(crate) const NO_PARTY: Message = ("-", "-");
 
     // ---- words
 
-    pub(crate) const SHAPE_ONE: Message = Message("one", "eine Zahl");
-    pub(crate) const SHAPE_PARTY: Message = Message("party", "Partei");
-    pub(crate) const SHAPE_LAND: Message = Message("land", "Land");
-    pub(crate) const SHAPE_LIST: Message = Message("list", "Liste");
-    pub(crate) const UNIT_SEATS: Message = Message("seats", "Sitze");
-    pub(crate) const UNIT_VOTES: Message = Message("votes", "Stimmen");
+    pub(crate) const SHAPE_ONE: Message = ("one", "eine Zahl");
+    pub(crate) const SHAPE_PARTY: Message = ("party", "Partei");
+    pub(crate) const SHAPE_LAND: Message = ("land", "Land");
+    pub(crate) const SHAPE_LIST: Message = ("list", "Liste");
+    pub(crate) const UNIT_SEATS: Message = ("seats", "Sitze");
+    pub(crate) const UNIT_VOTES: Message = ("votes", "Stimmen");
 }

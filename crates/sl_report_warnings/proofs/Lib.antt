@@ -1,3 +1,2 @@
 pub mod Finding
 pub mod Pieces
-pub mod Lines

@@ -1,8 +1,9 @@
--- How a warning is written (docs/returns.md, section 7).
-use Rattle.std.specs.Prelude.{List, [], codes, ◌++◌, ◌∷◌, ◌≡◌, ℕ}
-use Rattle.sl_explain_texts.specs.Heads.{Begins}
+-- How warnings are written (docs/returns.md, section 7).
+use Rattle.std.specs.Prelude.{List, codes, flat_map, ◌++◌, ℕ}
 use Rattle.sl_explain_texts.specs.Languages.{warning_word}
 use Rattle.sl_explain_texts.specs.declared.language.Language.{Language}
+use Rattle.sl_law_meaning.specs.returns.Election.{Election}
+use Rattle.sl_report_warnings.specs.Sentences.{sentence_of}
 use Rattle.sl_report_warnings.specs.declared.warning.Warning.TheVariants.{EqualPeople, FewParties, LandWithoutWinners, LotOfNoEntry, LotUnused, NothingCounted, OtherHouse, SeveralParties, WinnersBesideLists, WinnersWithoutList}
 use Rattle.sl_report_warnings.specs.declared.warning.Warning.{Warning}
 
@@ -23,7 +24,10 @@ key_of (FewParties parties) = codes "few_parties"
 abbrev pub head_of : Language → Warning → List ℕ
 head_of language w = ((warning_word language ++ codes "[") ++ key_of w) ++ codes "]: "
 
--- warnings as they are written: of each in turn a text that begins with its head
-abbrev pub AreWritten : Language → List Warning → List ℕ → Type 0
-AreWritten language [] text = text ≡ []
-AreWritten language (w ∷ ws) text = (first rest : List ℕ) × Begins (head_of language w) first × AreWritten language ws rest × (text ≡ first ++ rest)
+-- a warning as a line
+abbrev pub line_of : Language → Election → Warning → List ℕ
+line_of language e w = head_of language w ++ sentence_of language e w ++ codes "\n"
+
+-- warnings of returns as they are written, a line each
+abbrev pub warning_lines : Language → Election → List Warning → List ℕ
+warning_lines language e ws = flat_map (line_of language e) ws

@@ -1,3 +1,4 @@
--- What is warned of, and how the sentence of a warning begins.
+-- What is warned of, what a warning says, and how it is written.
 pub mod Heads
+pub mod Sentences
 pub mod Warnings

@@ -1,9 +1,12 @@
 //! Warnings as sentences, in both languages.
 
-ghost use Rattle.std.specs.Prelude.{◌≡◌, IfOk};
-ghost use Rattle.sl_explain_texts.specs.Heads.{Begins};
-ghost use Rattle.sl_explain_texts.specs.Messages.{IsFilledBy};
-ghost use Rattle.sl_report_warnings.specs.Heads.{AreWritten, head_of};
+ghost use Rattle.std.specs.Fmt.{decimal};
+ghost use Rattle.std.specs.Prelude.{◌≡◌, ◌∷◌, [], IfOk};
+ghost use Rattle.sl_explain_texts.specs.Messages.{IsFilledBy, says};
+ghost use Rattle.sl_explain_texts.specs.Languages.{lent, row};
+ghost use Rattle.sl_report_warnings.specs.declared.texts.rows.TheConstants.{NOTHING_COUNTED, OTHER_HOUSE};
+ghost use Rattle.sl_report_warnings.specs.Heads.{head_of, line_of, warning_lines};
+ghost use Rattle.sl_report_warnings.specs.Sentences.{lists_in, name_at, sentence_of, stage_of_lot, winners_in};
 
 use crate::texts;
 use crate::warning::Warning;
@@ -13,7 +16,9 @@ use sl_stages::Returns;
 use std::alloc::Global;
 
 // The name of a Land, and no text where there is no such Land.
-fn land_name(returns: &Returns, land: usize) -> &[u8] {
+fn land_name(returns: &Returns, land: usize) -> &[u8]
+    ensures { result.now ≡ name_at returns.now.land_names land }
+{
     if land < returns.lands() {
         returns.land_name(land)
     } else {
@@ -21,7 +26,9 @@ fn land_name(returns: &Returns, land: usize) -> &[u8] {
     }
 }
 
-fn party_name(returns: &Returns, party: usize) -> &[u8] {
+fn party_name(returns: &Returns, party: usize) -> &[u8]
+    ensures { result.now ≡ name_at returns.now.party_names party }
+{
     if party < returns.parties() {
         returns.party_name(party)
     } else {
@@ -30,7 +37,9 @@ fn party_name(returns: &Returns, party: usize) -> &[u8] {
 }
 
 // The stage that a lot names.
-fn lot_stage(returns: &Returns, lot: usize) -> &[u8] {
+fn lot_stage(returns: &Returns, lot: usize) -> &[u8]
+    ensures { result.now ≡ stage_of_lot returns.now lot }
+{
     let lot = returns.lots().get(lot);
     lot.map_or(b"", |lot| lot.stage.as_bytes())
 }
@@ -44,19 +53,24 @@ fn winners_sentence(
     land: &[u8],
 ) -> Result<Vec<u8>, NoMemory>
     requires { IsFilledBy message.now 3 }
+    ensures { IfOk result (λ text. text.items ≡ says speaker.language (lent message.now) (party.now ∷ winners_in speaker.language winners ∷ land.now ∷ [])) }
 {
     let winners = speaker.counted(winners as usize, &texts::WINNER, &texts::WINNERS)?;
     speaker.text(message, &[party, winners.as_slice(), land])
 }
 
 // The sentence of a warning of lists that count no vote.
-fn lists_sentence(speaker: Speaker, party: &[u8], lists: u64) -> Result<Vec<u8>, NoMemory> {
+fn lists_sentence(speaker: Speaker, party: &[u8], lists: u64) -> Result<Vec<u8>, NoMemory>
+    ensures { IfOk result (λ text. text.items ≡ says speaker.language (row NOTHING_COUNTED) (lists_in speaker.language lists ∷ party.now ∷ [])) }
+{
     let lists = speaker.counted(lists as usize, &texts::LIST, &texts::LISTS)?;
     speaker.text(&texts::NOTHING_COUNTED, &[lists.as_slice(), party])
 }
 
 // The sentence of a warning of another house.
-fn house_sentence(speaker: Speaker, returns: u32, book: u32) -> Result<Vec<u8>, NoMemory> {
+fn house_sentence(speaker: Speaker, returns: u32, book: u32) -> Result<Vec<u8>, NoMemory>
+    ensures { IfOk result (λ text. text.items ≡ says speaker.language (row OTHER_HOUSE) (decimal returns ∷ decimal book ∷ [])) }
+{
     let returns = speaker.number(returns as usize)?;
     let book = speaker.number(book as usize)?;
     speaker.text(&texts::OTHER_HOUSE, &[returns.as_slice(), book.as_slice()])
@@ -68,7 +82,9 @@ pub fn sentence(
     language: Language,
     returns: &Returns,
     warning: Warning,
-) -> Result<Vec<u8>, NoMemory> {
+) -> Result<Vec<u8>, NoMemory>
+    ensures { IfOk result (λ text. text.items ≡ sentence_of language returns.now warning) }
+{
     let speaker = Speaker { alloc, language };
     match warning {
         Warning::EqualPeople => speaker.text(&texts::EQUAL_PEOPLE, &[]),
@@ -126,7 +142,7 @@ fn line_of(
     returns: &Returns,
     warning: Warning,
 ) -> Result<Vec<u8>, NoMemory>
-    ensures { IfOk result (λ text. Begins (head_of language warning) text.items) }
+    ensures { IfOk result (λ text. text.items ≡ line_of language returns.now warning) }
 {
     let mut rest = sentence(alloc, language, returns, warning)?;
     rest.push(b'\n')?;
@@ -142,7 +158,7 @@ pub fn written(
     returns: &Returns,
     warnings: &[Warning],
 ) -> Result<Vec<u8>, NoMemory>
-    ensures { IfOk result (λ text. AreWritten language warnings.now text.items) }
+    ensures { IfOk result (λ text. text.items ≡ warning_lines language returns.now warnings.now) }
 {
     let mut text = Vec::new(alloc);
     for warning in warnings {

@@ -50,3 +50,13 @@ none_lost (Err f) = tt
 pub said_with_tables : {R : Type 0} (r : Result Answered R) → IfOk r (λ a. Unit {0})
 said_with_tables (Ok a) = tt
 said_with_tables (Err f) = tt
+
+-- of an answer hold both
+pub both : {R : Type 0} (r : Result Answered R) (P Q : Answered → Type 0) → IfOk r P → IfOk r Q → IfOk r (λ a. P a × Q a)
+both (Ok a) P Q p q = (p, q)
+both (Err f) P Q p q = tt
+
+-- what holds of an answer holds whatever holds before
+pub as_before : {R : Type 0} (r : Result Answered R) (P Q : Answered → Type 0) → IfOk r Q → IfOk r (λ a. P a → Q a)
+as_before (Ok a) P Q q = λ p. q
+as_before (Err f) P Q q = tt

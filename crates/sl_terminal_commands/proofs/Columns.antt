@@ -294,7 +294,7 @@ module _ (bytes : List ℕ → Option (List ℕ)) where
 
 pub comparison_warns : (bytes : List ℕ → Option (List ℕ)) (returns : List ℕ) (all : List (List ℕ × Option Method)) (is_refused : Bool) (a : Answer) (language : Language) (text : List ℕ)
     → IsComparison bytes returns all is_refused a (λ s. IsSaid language s text) → a.status ≡ status.Done → AreWarnings language text
-comparison_warns bytes returns all false a language text (inl (e, on, shows, says)) done = (warnings_of None e, says)
+comparison_warns bytes returns all false a language text (inl (e, on, shows, says)) done = (e, warnings_of None e, says)
 comparison_warns bytes returns all true a language text (inl (e, on, shows, says)) done = let no : status.Refused ≡ status.Done = sym shows.0 ∙ done in absurd cc
 comparison_warns bytes returns all is_refused a language text (inr (line, s, which, refuses, says)) done =
     let no : status.Refused ≡ status.Done = sym refuses.0.0 ∙ done in absurd cc

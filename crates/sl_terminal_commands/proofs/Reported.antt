@@ -116,7 +116,7 @@ told_in (Some (Whole v)) (Err a) found shown which told same by = λ good. absur
 
 end_done : (checked : CheckedBook) (e : Election) (end : End) (language : Language) (text : List ℕ) → end_status end ≡ status.Done → IsSaid language (end_said checked e end) text
     → AreWarnings language text
-end_done checked e (ends.Counted counted) language text done said = (warnings_of (Some (book_of checked.book)) e, said)
+end_done checked e (ends.Counted counted) language text done said = (e, warnings_of (Some (book_of checked.book)) e, said)
 end_done checked e (ends.Fault f) language text done said = absurd cc
 
 pub report_done : (show : Show) (is_refused : Bool) (judged : Judged) (a : Answer) (language : Language) (text : List ℕ) → IsShown show is_refused judged a → a.status ≡ status.Done

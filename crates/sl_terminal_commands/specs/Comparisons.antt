@@ -88,7 +88,7 @@ AreRefused known line s =
 
 -- what is told of a table: what is likely a mistake in the returns, and nothing where the names are refused
 abbrev pub table_said : (is_refused : Bool) → Election → Said
-table_said is_refused e = if is_refused then nothing else warned (warnings_of None e)
+table_said is_refused e = if is_refused then nothing else warned e (warnings_of None e)
 
 -- of good rulebooks on good returns: a table of their columns; or where the names are refused a refusal
 abbrev pub ShowsBooks : (List ℕ → Option (List ℕ)) → List (List ℕ × Option Method) → (is_refused : Bool) → Election → Answer → Type 0

@@ -4,14 +4,15 @@ use Rattle.sl_count_calls.specs.declared.judged.Judged.TheVariants as judged
 use Rattle.sl_count_calls.specs.declared.judged.Judged.{Judged}
 use Rattle.sl_law_meaning.specs.declared.count.End.TheVariants as ends
 use Rattle.sl_law_meaning.specs.declared.count.End.{End}
-use Rattle.sl_explain_texts.specs.Heads.{Begins, head_of}
+use Rattle.sl_explain_texts.specs.Pages.{page_of}
+use Rattle.sl_explain_texts.specs.declared.explanation.Explanation.{Explanation}
 use Rattle.sl_explain_texts.specs.declared.language.Language.{Language}
 use Rattle.sl_explain_calls.specs.Codes.{Subject, end_subject, judged_subject}
 use Rattle.sl_report_commands.specs.Statuses.{is_stopped}
 use Rattle.sl_law_meaning.specs.book.Books.{book_of}
 use Rattle.sl_law_meaning.specs.declared.checked.CheckedBook.{CheckedBook}
 use Rattle.sl_law_meaning.specs.returns.Election.{Election}
-use Rattle.sl_report_warnings.specs.Heads.{AreWritten}
+use Rattle.sl_report_warnings.specs.Heads.{warning_lines}
 use Rattle.sl_report_warnings.specs.Warnings.{warnings_of}
 use Rattle.sl_report_warnings.specs.declared.warning.Warning.{Warning}
 
@@ -19,17 +20,21 @@ use Rattle.sl_report_warnings.specs.declared.warning.Warning.{Warning}
 pub data Said : Type 0 where
   nothing : Said
   fault : (s : Subject) → Said
-  warned : (ws : List Warning) → Said
+  warned : (e : Election) (ws : List Warning) → Said
 
--- a text that says it: an explanation whose first words are those of the fault's code, in a language; or the warnings, each with its head
+-- the page of an explanation of that fault: of some bytes of a file, if it speaks of one
+abbrev pub Explains : Language → Subject → List ℕ → Type 0
+Explains language s text = (path : Option (List ℕ)) × (input : List ℕ) × (x : Explanation) × (x.code ≡ s.code) × (text ≡ page_of language path input x)
+
+-- a text that says it in a language: the page of an explanation, or the warnings as lines, with the names of the returns
 abbrev pub IsSaid : Language → Said → List ℕ → Type 0
 IsSaid language nothing text = text ≡ []
-IsSaid language (fault s) text = Begins (head_of language s.code) text
-IsSaid language (warned ws) text = AreWritten language ws text
+IsSaid language (fault s) text = Explains language s text
+IsSaid language (warned e ws) text = text ≡ warning_lines language e ws
 
 -- a text of no more than warnings
 abbrev pub AreWarnings : Language → List ℕ → Type 0
-AreWarnings language text = (ws : List Warning) × AreWritten language ws text
+AreWarnings language text = (e : Election) × (ws : List Warning) × (text ≡ warning_lines language e ws)
 
 -- a fault, where there is one
 abbrev pub said_of : Option Subject → Said
@@ -38,7 +43,7 @@ said_of (Some s) = fault s
 
 -- of what a rulebook and returns come to: the fault, or where there is a table the warnings of both
 abbrev pub end_said : CheckedBook → Election → End → Said
-end_said checked e (ends.Counted counted) = warned (warnings_of (Some (book_of checked.book)) e)
+end_said checked e (ends.Counted counted) = warned e (warnings_of (Some (book_of checked.book)) e)
 end_said checked e (ends.Fault f) = said_of (end_subject (ends.Fault f))
 
 abbrev pub judged_said : Judged → Said

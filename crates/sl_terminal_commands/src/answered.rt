@@ -4,7 +4,7 @@ ghost use Rattle.std.specs.Option.{option_map};
 ghost use Rattle.std.specs.Prelude.{◌≡◌, [], IfOk, MatchOption, Some};
 ghost use Rattle.sl_explain_calls.specs.Codes.{check_subject, judged_subject, run_subject, subject_of};
 ghost use Rattle.sl_law_meaning.specs.book.Books.{book_of};
-ghost use Rattle.sl_report_warnings.specs.Heads.{AreWritten};
+ghost use Rattle.sl_report_warnings.specs.Heads.{warning_lines};
 ghost use Rattle.sl_report_warnings.specs.Warnings.{warnings_of};
 ghost use Rattle.sl_terminal_commands.specs.Said.{IsSaid, fault, judged_said, said_of, warned};
 
@@ -100,7 +100,7 @@ pub(crate) struct ReadFile<'a> {
 /// The count to which inputs came, if it has a table.
 pub(crate) fn counted<'a>(judged: &'a Judged<'_>) -> Option<&'a Counting>
     ensures { MatchOption result (judged_said judged.now ≡ said_of (judged_subject judged.now))
-        (λ c. judged_said judged.now ≡ warned (warnings_of (Some (book_of c.now.book.book)) c.now.returns)) }
+        (λ c. judged_said judged.now ≡ warned c.now.returns (warnings_of (Some (book_of c.now.book.book)) c.now.returns)) }
 {
     match judged {
         Judged::Counted(counting) => match &counting.outcome.end {
@@ -120,7 +120,7 @@ pub(crate) fn warnings_text(
     book: Option<&Book>,
     returns: &Returns,
 ) -> Result<Vec<u8>, NoMemory>
-    ensures { IfOk result (λ text. AreWritten language (warnings_of (option_map (λ b. book_of b.now) book.entry) returns.now) text.items) }
+    ensures { IfOk result (λ text. text.items ≡ warning_lines language returns.now (warnings_of (option_map (λ b. book_of b.now) book.entry) returns.now)) }
 {
     let warnings = warnings_of(alloc, book, returns)?;
     sl_report_warnings::written(alloc, language, returns, warnings.as_slice())
@@ -137,11 +137,13 @@ pub(crate) fn explained_text(
 {
     let input = told.input;
     let file = files.iter().copied().find(|file| file.input == input);
-    let (path, bytes) = match file {
-        Some(file) => (Some(file.path.as_bytes()), file.bytes),
-        None => (None, b"".as_slice()),
-    };
-    written(alloc, language, path, bytes, &told.explanation)
+    match file {
+        Some(file) => {
+            let path = Some(file.path.as_bytes());
+            written(alloc, language, path, file.bytes, &told.explanation)
+        }
+        None => written(alloc, language, None, b"", &told.explanation),
+    }
 }
 
 /// What was explained, if anything was.

@@ -11,13 +11,13 @@ use crate::sums::NamedBook;
 use sl_base_quotients::{Method, NoMemory};
 use sl_count_inputs::{ReadBook, Verdict};
 use sl_explain_calls::Explained;
-use sl_explain_texts::Message;
+use sl_explain_texts::{Message, Speaker};
 use sl_report_commands::{Language, book_by, method_of, method_word};
 use sl_stages::CheckedBook;
 use std::alloc::Global;
 
 // What is said where a rulebook fails a test with another method than its own.
-const OTHER_METHOD: Message = Message(
+const OTHER_METHOD: Message = (
     "`--method` put `{method}` in place of the method here",
     "`--method` hat hier `{method}` an die Stelle des Verfahrens gesetzt",
 );
@@ -127,7 +127,7 @@ pub(crate) fn add_method(
     match method {
         Some(method) => {
             let word = method_word(method).as_bytes();
-            let text = OTHER_METHOD.text(alloc, language, &[word])?;
+            let text = Speaker { alloc, language }.text(&OTHER_METHOD, &[word])?;
             explained.explanation.add_remedy(text)
         }
         None => Ok(()),

@@ -13,7 +13,7 @@ use crate::texts::refusals::TIP;
 use clap::error::ErrorKind;
 use clap::{Command, Error};
 use sl_base_quotients::NoMemory;
-use sl_explain_texts::{Language, Message, append};
+use sl_explain_texts::{Language, Message, Speaker, append};
 use std::alloc::{AllocError, Global};
 
 /// What is said of words that ask for no command.
@@ -29,7 +29,7 @@ pub enum Answer {
 
 /// What is said where memory ran out while words were read.
 pub fn out_of_memory(language: Language) -> &'static str {
-    NO_MEMORY.in_language(language)
+    language.text(&NO_MEMORY)
 }
 
 // The command of whose help words ask: the one that they begin with, or the one after `help`, or the program; `None` for that of `help` itself.
@@ -80,28 +80,22 @@ fn usage_of(alloc: Global, language: Language, form: &Form) -> Result<String, Al
 }
 
 // How the program is called: in English as `clap` says it, with the name by which it was called.
-fn usage_of_program(
-    alloc: Global,
-    language: Language,
-    program: &mut Command<'_>,
-) -> Result<String, AllocError> {
-    if language == Language::English {
-        program.render_usage()
-    } else {
-        usage_of(alloc, language, &PROGRAM)
+fn usage_of_program(speaker: Speaker, program: &mut Command<'_>) -> Result<String, AllocError> {
+    match speaker.language {
+        Language::English => program.render_usage(),
+        language => usage_of(speaker.alloc, language, &PROGRAM),
     }
 }
 
 // How the command is called that words begin with, or the program.
 fn usage(
-    alloc: Global,
-    language: Language,
+    speaker: Speaker,
     words: &[String],
     program: &mut Command<'_>,
 ) -> Result<String, AllocError> {
     match command_of(words) {
-        Some(form) => usage_of(alloc, language, form),
-        None => usage_of_program(alloc, language, program),
+        Some(form) => usage_of(speaker.alloc, speaker.language, form),
+        None => usage_of_program(speaker, program),
     }
 }
 
@@ -114,9 +108,10 @@ pub(crate) fn refuse(
 ) -> Result<Answer, NoMemory>
     ensures { IfOk result IsRefusal }
 {
-    let usage = usage_of_program(alloc, language, program)?;
-    let sentence = sentence.in_language(language).as_bytes();
-    let text = refusal(alloc, language, sentence, &[], usage.as_bytes())?;
+    let speaker = Speaker { alloc, language };
+    let usage = usage_of_program(speaker, program)?;
+    let sentence = language.text(sentence).as_bytes();
+    let text = refusal(speaker, sentence, &[], usage.as_bytes())?;
     Ok(Answer::Refused(text))
 }
 
@@ -136,45 +131,42 @@ fn names_near(kind: ErrorKind, text: &str) -> bool {
 
 // What to do about words that `clap` refuses, with an empty line before it: what this program says of them, or else what `clap` would try.
 fn tips(
-    alloc: Global,
-    language: Language,
+    speaker: Speaker,
     words: &[String],
     kind: ErrorKind,
     text: &str,
 ) -> Result<Option<Vec<u8>>, NoMemory> {
     if !names_near(kind, text) {
-        if let Some(hint) = hint_of(alloc, language, words, kind)? {
-            let mut tips = Vec::from_slice(alloc, b"\n")?;
-            let line = TIP.text(alloc, language, &[hint.as_slice()])?;
+        if let Some(hint) = hint_of(speaker, words, kind)? {
+            let mut tips = Vec::from_slice(speaker.alloc, b"\n")?;
+            let line = speaker.text(&TIP, &[hint.as_slice()])?;
             append(&mut tips, &[line.as_slice()])?;
             return Ok(Some(tips));
         }
     }
-    if language == Language::English {
-        Ok(None)
-    } else {
-        Ok(Some(tips_in(alloc, language, text)?))
+    match speaker.language {
+        Language::English => Ok(None),
+        Language::German => Ok(Some(tips_in(speaker, text)?)),
     }
 }
 
 // A refusal by `clap`: its own English text, if there is nothing to add.
 fn refuse_by(
-    alloc: Global,
-    language: Language,
+    speaker: Speaker,
     words: &[String],
     program: &mut Command<'_>,
     error: &Error,
 ) -> Result<Answer, NoMemory>
     ensures { IfOk result IsRefusal }
 {
-    let text = format!(in alloc; "{error}")?;
-    let Some(tips) = tips(alloc, language, words, error.kind(), text.as_str())? else {
+    let text = format!(in speaker.alloc; "{error}")?;
+    let Some(tips) = tips(speaker, words, error.kind(), text.as_str())? else {
         return Ok(Answer::Refused(text.into_bytes()));
     };
-    let sentence = sentence_in(alloc, language, sentence_of(text.as_str()))?;
-    let usage = usage(alloc, language, words, program)?;
+    let sentence = sentence_in(speaker, sentence_of(text.as_str()))?;
+    let usage = usage(speaker, words, program)?;
     let (sentence, tips) = (sentence.as_slice(), tips.as_slice());
-    let text = refusal(alloc, language, sentence, tips, usage.as_bytes())?;
+    let text = refusal(speaker, sentence, tips, usage.as_bytes())?;
     Ok(Answer::Refused(text))
 }
 
@@ -194,6 +186,6 @@ pub(crate) fn answer_to(
             Ok(Answer::Shown(format!(in alloc; "{error}")?.into_bytes()))
         }
         ErrorKind::DisplayHelp => help(alloc, language, words, format!(in alloc; "{error}")?),
-        _ => refuse_by(alloc, language, words, program, error),
+        _ => refuse_by(Speaker { alloc, language }, words, program, error),
     }
 }

@@ -120,23 +120,23 @@ fn arg_of<'a>(alloc: Global, language: Language, word: &Word) -> Result<Arg<'a>,
     ensures rule { IfOk result (λ arg. plain_rule (rule_of arg) ≡ rule_of_word word.now) }
     ensures own { IfOk result (λ arg. arg.global ≡ false) }
 {
-    let arg = Arg::new(alloc, word.name).help(word.help.in_language(language));
+    let arg = Arg::new(alloc, word.name).help(language.text(&word.help));
     match word.given {
         Given::Flag(against) => named(arg, word, ArgAction::SetTrue).conflicts_with_all(against),
         Given::Letter(letter) => Ok(named(arg, word, ArgAction::SetTrue).short(letter)),
         Given::Value(value) => {
-            Ok(named(arg, word, ArgAction::Set).value_name(value.in_language(language)))
+            Ok(named(arg, word, ArgAction::Set).value_name(language.text(&value)))
         }
         Given::Beside(value, flag) => {
-            let arg = named(arg, word, ArgAction::Set).value_name(value.in_language(language));
+            let arg = named(arg, word, ArgAction::Set).value_name(language.text(&value));
             arg.requires_arg(flag)
         }
         Given::Choice(value, values) => {
-            let arg = named(arg, word, ArgAction::Set).value_name(value.in_language(language));
+            let arg = named(arg, word, ArgAction::Set).value_name(language.text(&value));
             Ok(arg.value_parser(values))
         }
         Given::Choices(value, values, beside) => {
-            let arg = named(arg, word, ArgAction::Append).value_name(value.in_language(language));
+            let arg = named(arg, word, ArgAction::Append).value_name(language.text(&value));
             arg.value_parser(values).requires_arg(beside)
         }
         Given::Repeated => Ok(arg.action(ArgAction::Append).num_args(0..)),
@@ -176,7 +176,7 @@ fn with_words<'a>(
 fn command<'a>(alloc: Global, language: Language, form: &Form) -> Result<Command<'a>, AllocError>
     ensures { IfOk result (IsOfForm form.now) }
 {
-    let command = Command::new(alloc, form.name).about(form.about.in_language(language));
+    let command = Command::new(alloc, form.name).about(language.text(&form.about));
     let command = with_words(alloc, language, command, form.words)?;
     with_words(alloc, language, command, form.options)
 }

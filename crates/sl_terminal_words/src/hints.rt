@@ -1,14 +1,14 @@
 //! What to do about words that are refused: a command or an option that is meant, or an example.
 
-use crate::help::command_of;
+use crate::help::{Form, command_of};
 use crate::texts::hints::{
-    ALL, BESIDE_SHORT, CALLED, CODE_ALONE, COMMAND_FIRST, COMPARE_ALONE, FOR_EXAMPLE, IN_PLACE,
-    METHODS, NO_RULEBOOK, OPTION_BEHIND, REDIRECT, REPORT_ALONE, REPORTS, STAGE, VERSION,
+    ALL, BESIDE_SHORT, CALLED, CODE_ALONE, COMMAND_FIRST, COMPARE_ALONE, FOR_EXAMPLE, FORMAT,
+    FROM_INPUT, HYPHENS, IN_PLACE, METHODS, NO_RULEBOOK, ONE_STAGE, OPTION_BEHIND, QUOTED,
+    REPORT_ALONE, REPORTS, STAGE, TO_FILE, VERSION,
 };
 use clap::error::ErrorKind;
 use sl_base_quotients::NoMemory;
-use sl_explain_texts::{Language, Message};
-use std::alloc::Global;
+use sl_explain_texts::{Message, Speaker};
 
 // Words that are taken for commands, and the commands.
 const MEANT: [(&str, &str); 20] = [
@@ -46,38 +46,42 @@ fn is_input(word: &str) -> bool {
 }
 
 // What to do about a word that is no command, to which none is near.
-fn about_command(alloc: Global, language: Language, word: &str) -> Result<Vec<u8>, NoMemory> {
-    if word == "version" {
-        return VERSION.text(alloc, language, &[]);
-    }
-    if is_input(word) {
-        return COMMAND_FIRST.text(alloc, language, &[]);
-    }
+fn about_command(speaker: Speaker, word: &str) -> Result<Vec<u8>, NoMemory> {
     match meant_by(word) {
-        Some(command) => CALLED.text(alloc, language, &[command.as_bytes()]),
-        None => ALL.text(alloc, language, &[]),
+        _ if word == "version" => speaker.text(&VERSION, &[]),
+        _ if is_input(word) => speaker.text(&COMMAND_FIRST, &[]),
+        Some(command) => speaker.text(&CALLED, &[command.as_bytes()]),
+        None => speaker.text(&ALL, &[]),
     }
+}
+
+// An option without the value behind `=`.
+fn option_name(word: &str) -> &str {
+    word.split_once("=").map_or(word, |(name, _)| name)
 }
 
 // What is said of an option that its command lacks.
 fn about_option(word: &str) -> Option<&'static Message> {
-    let name = match word.split_once("=") {
-        Some((name, _)) => name,
-        None => word,
-    };
-    match name {
+    match option_name(word) {
         "--markdown" | "--html" | "--json" | "--csv" | "--names" => Some(&REPORTS),
         "--short" | "--before" => Some(&REPORT_ALONE),
         "--method" => Some(&COMPARE_ALONE),
         "--force" => Some(&CODE_ALONE),
         "--book" | "--law" | "--returns" | "--input" | "--file" => Some(&IN_PLACE),
-        "--output" | "--out" | "--format" | "-o" => Some(&REDIRECT),
+        "--output" | "--out" | "-o" => Some(&TO_FILE),
+        "--format" => Some(&FORMAT),
         "-v" => Some(&VERSION),
         _ => None,
     }
 }
 
-// What to do about an option among the words: it stands before the command, or another command has it.
+// Whether a command has the option that a word names.
+fn has_option(form: &Form, word: &str) -> bool {
+    let name = option_name(word).strip_prefix("--").unwrap_or("");
+    form.options.iter().any(|option| option.word().name == name)
+}
+
+// What to do about an option among the words that their command lacks: it stands before the command, or another command has it.
 fn about_options(words: &[String]) -> Option<&'static Message> {
     let first = words.get(1)?.as_str();
     if first.starts_with("-") {
@@ -86,7 +90,9 @@ fn about_options(words: &[String]) -> Option<&'static Message> {
             _ => Some(&OPTION_BEHIND),
         };
     }
-    words.iter().find_map(|word| about_option(word.as_str()))
+    let form = command_of(words)?;
+    let mut others = words.iter().filter(|word| !has_option(form, word.as_str()));
+    others.find_map(|word| about_option(word.as_str()))
 }
 
 // Whether a word begins so.
@@ -107,20 +113,56 @@ fn beside_missing(words: &[String]) -> Option<&'static Message> {
     }
 }
 
+// Whether a command reads returns.
+fn reads_returns(form: &Form) -> bool {
+    form.example.contains("returns.csv")
+}
+
 // What to do where a word of a command is missing.
-fn about_missing(
-    alloc: Global,
-    language: Language,
-    words: &[String],
-) -> Result<Option<Vec<u8>>, NoMemory> {
+fn about_missing(speaker: Speaker, words: &[String]) -> Result<Option<Vec<u8>>, NoMemory> {
     if let Some(message) = beside_missing(words) {
-        return Ok(Some(message.filled(alloc, language, &[])?));
+        return Ok(Some(speaker.filled(message, &[])?));
     }
-    Ok(match command_of(words) {
-        Some(form) if form.name == "stage" => Some(STAGE.text(alloc, language, &[])?),
-        Some(form) => Some(FOR_EXAMPLE.text(alloc, language, &[form.example.as_bytes()])?),
-        None => None,
-    })
+    let Some(form) = command_of(words) else {
+        return Ok(None);
+    };
+    let example = [form.example.as_bytes()];
+    Ok(Some(if form.name == "stage" {
+        speaker.text(&STAGE, &[])?
+    } else if reads_returns(form) {
+        speaker.text(&FROM_INPUT, &example)?
+    } else {
+        speaker.text(&FOR_EXAMPLE, &example)?
+    }))
+}
+
+// The name of an option after a dash that a word processor has made of two hyphens.
+fn after_dash(word: &str) -> Option<&str> {
+    word.strip_prefix("–").or(word.strip_prefix("—"))
+}
+
+// What to do about a word that is more than a command takes, where all of its options are those of the command.
+fn about_surplus(words: &[String]) -> Option<&'static Message> {
+    let form = command_of(words)?;
+    let mut options = words.iter().filter(|word| word.as_str().starts_with("-"));
+    if !reads_returns(form) || !options.all(|word| has_option(form, word.as_str())) {
+        None
+    } else if form.name == "stages" {
+        Some(&ONE_STAGE)
+    } else {
+        Some(&QUOTED)
+    }
+}
+
+// What to do about a word that a command does not take.
+fn about_unknown(speaker: Speaker, words: &[String]) -> Result<Option<Vec<u8>>, NoMemory> {
+    if let Some(name) = words.iter().find_map(|word| after_dash(word.as_str())) {
+        return Ok(Some(speaker.text(&HYPHENS, &[name.as_bytes()])?));
+    }
+    match about_options(words).or(about_surplus(words)) {
+        Some(message) => Ok(Some(speaker.filled(message, &[])?)),
+        None => Ok(None),
+    }
 }
 
 // The word that should be a command: the first, or the one after `help`.
@@ -134,23 +176,17 @@ fn command_word(words: &[String]) -> &str {
 
 /// What to do about words that are refused for a reason of this kind, if more can be said than the refusal says.
 pub(crate) fn hint_of(
-    alloc: Global,
-    language: Language,
+    speaker: Speaker,
     words: &[String],
     kind: ErrorKind,
 ) -> Result<Option<Vec<u8>>, NoMemory> {
     match kind {
-        ErrorKind::InvalidSubcommand => {
-            Ok(Some(about_command(alloc, language, command_word(words))?))
-        }
-        ErrorKind::MissingRequiredArgument => about_missing(alloc, language, words),
+        ErrorKind::InvalidSubcommand => Ok(Some(about_command(speaker, command_word(words))?)),
+        ErrorKind::MissingRequiredArgument => about_missing(speaker, words),
         ErrorKind::InvalidValue if has_word(words, "--method") => {
-            Ok(Some(METHODS.text(alloc, language, &[])?))
+            Ok(Some(speaker.text(&METHODS, &[])?))
         }
-        ErrorKind::UnknownArgument => match about_options(words) {
-            Some(message) => Ok(Some(message.filled(alloc, language, &[])?)),
-            None => Ok(None),
-        },
+        ErrorKind::UnknownArgument => about_unknown(speaker, words),
         _ => Ok(None),
     }
 }

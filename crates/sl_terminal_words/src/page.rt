@@ -56,7 +56,7 @@ fn push_shown(text: &mut String, language: Language, word: &Word) -> Result<(), 
         | Given::Beside(value, _)
         | Given::Choice(value, _)
         | Given::Choices(value, _, _) => {
-            let value = value.in_language(language);
+            let value = language.text(value);
             push_parts(text, &["    --", name, " <", value, ">"])
         }
         given => {
@@ -68,7 +68,7 @@ fn push_shown(text: &mut String, language: Language, word: &Word) -> Result<(), 
 
 // Adds the values that a word may have.
 fn push_values(text: &mut String, language: Language, values: &[&str]) -> Result<(), AllocError> {
-    let mut before = VALUES.in_language(language);
+    let mut before = language.text(&VALUES);
     for value in values {
         text.push_str(before)?;
         text.push_str(value)?;
@@ -79,7 +79,7 @@ fn push_values(text: &mut String, language: Language, values: &[&str]) -> Result
 
 // Adds what a word stands for, with the values that it may have.
 fn push_said(text: &mut String, language: Language, word: &Word) -> Result<(), AllocError> {
-    text.push_str(word.help.in_language(language))?;
+    text.push_str(language.text(&word.help))?;
     match word.given {
         Given::Choice(_, values) | Given::Choices(_, values, _) => {
             push_values(text, language, values)
@@ -126,10 +126,10 @@ fn command_rows(alloc: Global, language: Language) -> Result<Vec<Row>, AllocErro
     let mut rows = Vec::new(alloc);
     for command in &COMMANDS {
         let form = command.form();
-        let about = form.about.in_language(language);
+        let about = language.text(&form.about);
         push_made(&mut rows, row_of(alloc, form.name, about))?;
     }
-    let about = HELP_COMMAND.in_language(language);
+    let about = language.text(&HELP_COMMAND);
     push_made(&mut rows, row_of(alloc, HELP_NAME, about))?;
     Ok(rows)
 }
@@ -201,7 +201,7 @@ fn row_of_statute(alloc: Global, language: Language, statute: &Statute) -> Resul
     let mut row = row_of(alloc, statute.name, "")?;
     push_years(&mut row.said, statute)?;
     if row.said.is_empty() {
-        row.said.push_str(NO_ELECTION.in_language(language))?;
+        row.said.push_str(language.text(&NO_ELECTION))?;
     }
     Ok(row)
 }
@@ -234,11 +234,8 @@ pub(crate) fn push_usage(
     } else {
         ("seatlaw ", &SOME_OPTIONS)
     };
-    let title = USAGE.in_language(language);
-    push_parts(
-        text,
-        &[title, program, form.name, rest.in_language(language)],
-    )?;
+    let title = language.text(&USAGE);
+    push_parts(text, &[title, program, form.name, language.text(rest)])?;
     push_call(text, language, form.words)
 }
 
@@ -253,11 +250,7 @@ fn push_statutes(
         return Ok(());
     }
     let rows = statute_rows(alloc, language)?;
-    push_list(
-        text,
-        TITLE_OF_STATUTES.in_language(language),
-        rows.as_slice(),
-    )
+    push_list(text, language.text(&TITLE_OF_STATUTES), rows.as_slice())
 }
 
 // Adds the exit statuses.
@@ -267,9 +260,9 @@ fn push_statuses(text: &mut String, language: Language, form: &Form) -> Result<(
     } else {
         &STATUSES
     };
-    text.push_str(title.in_language(language))?;
+    text.push_str(language.text(title))?;
     for status in form.statuses {
-        push_parts(text, &["\n", status.said().in_language(language)])?;
+        push_parts(text, &["\n", language.text(&status.said())])?;
     }
     text.push_str("\n")
 }
@@ -281,9 +274,9 @@ pub(crate) fn push_ending(
     language: Language,
     form: &Form,
 ) -> Result<(), AllocError> {
-    push_parts(text, &["\n", form.more.in_language(language)])?;
+    push_parts(text, &["\n", language.text(&form.more)])?;
     push_statutes(text, alloc, language, form)?;
-    push_parts(text, &[EXAMPLE.in_language(language), form.example])?;
+    push_parts(text, &[language.text(&EXAMPLE), form.example])?;
     push_statuses(text, language, form)
 }
 
@@ -298,11 +291,7 @@ fn push_commands(
         return Ok(());
     }
     let rows = command_rows(alloc, language)?;
-    push_list(
-        text,
-        TITLE_OF_COMMANDS.in_language(language),
-        rows.as_slice(),
-    )
+    push_list(text, language.text(&TITLE_OF_COMMANDS), rows.as_slice())
 }
 
 // Adds the words of a command.
@@ -314,7 +303,7 @@ fn push_words(
 ) -> Result<(), AllocError> {
     let mut rows = Vec::new(alloc);
     push_rows(&mut rows, alloc, language, form.words)?;
-    push_list(text, TITLE_OF_WORDS.in_language(language), rows.as_slice())
+    push_list(text, language.text(&TITLE_OF_WORDS), rows.as_slice())
 }
 
 // Adds the options of a command.
@@ -325,11 +314,7 @@ fn push_options(
     form: &Form,
 ) -> Result<(), AllocError> {
     let rows = option_rows(alloc, language, form)?;
-    push_list(
-        text,
-        TITLE_OF_OPTIONS.in_language(language),
-        rows.as_slice(),
-    )
+    push_list(text, language.text(&TITLE_OF_OPTIONS), rows.as_slice())
 }
 
 /// Adds the help of a command without its end, as `clap` writes the English one.
@@ -339,7 +324,7 @@ pub(crate) fn push_page(
     language: Language,
     form: &Form,
 ) -> Result<(), AllocError> {
-    push_parts(text, &[form.about.in_language(language), "\n\n"])?;
+    push_parts(text, &[language.text(&form.about), "\n\n"])?;
     push_usage(text, language, form)?;
     push_commands(text, alloc, language, form)?;
     push_words(text, alloc, language, form)?;

@@ -21,6 +21,6 @@ pub fn reason_in(alloc: Global, language: Language, reason: &str) -> Result<Stri
         Language::English => words,
         Language::German => german_reason(number).unwrap_or(words),
     };
-    let before = NUMBER.in_language(language);
+    let before = language.text(&NUMBER);
     format!(in alloc; "{words}{before}{rest}")
 }

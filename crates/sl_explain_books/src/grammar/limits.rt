@@ -62,13 +62,13 @@ pub fn explain_depth(
 ) -> Result<Explainer, NoMemory>
     ensures { IfOk result (λ x. x.code ≡ Some B08) }
 {
-    let levels = (level_at(tokens, at), MAX_DEPTH as usize);
-    let (sentence, numbers) = if levels.0 > levels.1 {
-        (&texts::TOO_DEEP, levels)
+    let (level, most) = (level_at(tokens, at), MAX_DEPTH as usize);
+    let explainer = if level > most {
+        say_more(speaker, text, at, &texts::TOO_DEEP, (level, most))?
     } else {
-        (&texts::TOO_MANY_PARTS, (MAX_PARTS as usize, 0))
+        let parts = MAX_PARTS as usize;
+        say_more(speaker, text, at, &texts::TOO_MANY_PARTS, (parts, 0))?
     };
-    let explainer = say_more(speaker, text, at, sentence, numbers)?;
     Ok(explainer.helped(&texts::PARTS_REMEDY, &[]))
 }
 

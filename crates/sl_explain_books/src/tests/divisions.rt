@@ -1,7 +1,7 @@
 //! Explains splits and growths with mismatched arguments, or with an option that their method does not take.
 
 ghost use Rattle.std.specs.Prelude.{◌≡◌, IfOk, IfSome, Some};
-ghost use Rattle.sl_explain_texts.specs.Messages.{IsFilledBy};
+ghost use Rattle.sl_explain_texts.specs.Messages.{IsFilledBy, IsSaidBy};
 ghost use Rattle.sl_explain_texts.specs.declared.code.FaultCode.TheVariants.{B19};
 
 use super::Written;
@@ -9,7 +9,7 @@ use super::forms::{explain_arguments, explain_unfit, node_in, summed, sums_to};
 use super::node::{Division, Node};
 use crate::texts::tests as texts;
 use sl_base_quotients::{Method, NoMemory};
-use sl_explain_texts::{Explainer, FaultCode, Message};
+use sl_explain_texts::{Explainer, FaultCode, Message, Sentence};
 use sl_law_meaning::{ColumnType, Shape, Unit};
 use sl_parse::method_keyword;
 
@@ -83,16 +83,24 @@ pub fn explain_division(
     }
 }
 
+// What is said of an option that a method does not take.
+fn option_texts(division: Division) -> (&'static Sentence, &'static Message)
+    ensures sentence { IsSaidBy result.0.now 1 × (result.0.now.0 ≡ B19) }
+    ensures remedy { IsFilledBy result.1.now 0 }
+{
+    match division.method {
+        _ if division.grows => (&texts::HAMILTON_GROWS, &texts::HAMILTON_GROWS_REMEDY),
+        Method::Hamilton => (&texts::HAMILTON_MINIMA, &texts::HAMILTON_MINIMA_REMEDY),
+        Method::Divisor(_) => (&texts::PREFER, &texts::PREFER_REMEDY),
+    }
+}
+
 // An option that the method of a split or a growth does not take.
 fn explain_method(written: &Written<'_>, at: usize, division: Division) -> Explainer
     ensures { result.code ≡ Some B19 }
 {
     let method = method_keyword(division.method).spelling().as_bytes();
-    let (sentence, remedy) = match division.method {
-        _ if division.grows => (&texts::HAMILTON_GROWS, &texts::HAMILTON_GROWS_REMEDY),
-        Method::Hamilton => (&texts::HAMILTON_MINIMA, &texts::HAMILTON_MINIMA_REMEDY),
-        Method::Divisor(_) => (&texts::PREFER, &texts::PREFER_REMEDY),
-    };
+    let (sentence, remedy) = option_texts(division);
     let explainer = written.says(sentence, &[method], at);
     explainer.helped(remedy, &[])
 }

@@ -67,12 +67,12 @@ fn explain_sum(
 {
     let words = column_words(written.speaker, of);
     if of.shape == Shape::One {
-        let explainer = written.says(&texts::SUM_ONE.of_fault(code), &[words], at);
+        let explainer = written.says(&(code, texts::SUM_ONE.0, texts::SUM_ONE.1), &[words], at);
         return explainer.helped(&texts::SUM_ONE_REMEDY, &[]);
     }
     let values = [axis_keyword(over).spelling().as_bytes(), words];
     written
-        .says(&texts::SUM_AXIS.of_fault(code), &values, at)
+        .says(&(code, texts::SUM_AXIS.0, texts::SUM_AXIS.1), &values, at)
         .helped(&texts::SUM_AXIS_REMEDY, &[])
 }
 
@@ -90,7 +90,7 @@ pub fn explain_arguments(
 {
     let first = column_words(written.speaker, arguments.0);
     let second = column_words(written.speaker, arguments.1);
-    written.says(&message.of_fault(code), &[form, first, second], at)
+    written.says(&(code, message.0, message.1), &[form, first, second], at)
 }
 
 // What to do about the two columns of a pair, and the shape that the `sum` in it leaves.
@@ -147,7 +147,7 @@ fn help_made(explainer: &mut Explainer, written: &Written<'_>, at: usize) -> Res
 pub fn explain_unfit(written: &Written<'_>, code: FaultCode, at: usize) -> Explainer
     ensures { result.code ≡ Some code }
 {
-    let sentence = texts::NOT_FITTING.of_fault(code);
+    let sentence = (code, texts::NOT_FITTING.0, texts::NOT_FITTING.1);
     written.says(&sentence, &[written.token(at)], at)
 }
 

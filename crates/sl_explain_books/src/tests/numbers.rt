@@ -10,16 +10,24 @@ use sl_base_quotients::NoMemory;
 use sl_explain_texts::{Explainer, Message, Sentence};
 use sl_law_meaning::{Cond, MAX_PER, MAX_SEATS};
 
+// What is said of a version that is another, or of the word after it.
+fn version_texts(is_other: bool) -> (&'static Sentence, &'static Message)
+    ensures sentence { IsSaidBy result.0.now 1 × (result.0.now.0 ≡ B11) }
+    ensures remedy { IsFilledBy result.1.now 0 }
+{
+    if is_other {
+        (&texts::NO_VERSION, &texts::VERSIONS)
+    } else {
+        (&texts::VACATE, &texts::VACATE_REMEDY)
+    }
+}
+
 /// A version that does not exist, or `vacate` in the first one.
 pub fn explain_version(written: &Written<'_>, at: usize) -> Explainer
     ensures { result.code ≡ Some B11 }
 {
     let place = written.book.version.at;
-    let (sentence, remedy) = if at == place {
-        (&texts::NO_VERSION, &texts::VERSIONS)
-    } else {
-        (&texts::VACATE, &texts::VACATE_REMEDY)
-    };
+    let (sentence, remedy) = version_texts(at == place);
     let explainer = written.says(sentence, &[written.token(place)], at);
     explainer.helped(remedy, &[])
 }
@@ -49,6 +57,20 @@ fn share_at(conditions: &[Cond], at: usize) -> (u32, u32) {
     found.unwrap_or((0, 0))
 }
 
+// What is said of a threshold that is out of its range.
+fn share_texts(share: u32, per: u32) -> (&'static Sentence, &'static Message)
+    ensures sentence { IsSaidBy result.0.now 3 × (result.0.now.0 ≡ B13) }
+    ensures remedy { IsFilledBy result.1.now 0 }
+{
+    if share == 0 {
+        (&texts::SHARE_ZERO, &texts::SHARE_ZERO_REMEDY)
+    } else if share > per {
+        (&texts::SHARE_MORE, &texts::SHARE_MORE_REMEDY)
+    } else {
+        (&texts::SHARE_PARTS, &texts::SHARE_PARTS_REMEDY)
+    }
+}
+
 /// A threshold that is out of its range.
 pub fn explain_share(written: &Written<'_>, at: usize) -> Result<Explainer, NoMemory>
     ensures { IfOk result (λ x. x.code ≡ Some B13) }
@@ -58,12 +80,6 @@ pub fn explain_share(written: &Written<'_>, at: usize) -> Result<Explainer, NoMe
     let second = written.speaker.number(per as usize)?;
     let most = written.speaker.number(MAX_PER as usize)?;
     let values = [first.as_slice(), second.as_slice(), most.as_slice()];
-    let (sentence, remedy) = if share == 0 {
-        (&texts::SHARE_ZERO, &texts::SHARE_ZERO_REMEDY)
-    } else if share > per {
-        (&texts::SHARE_MORE, &texts::SHARE_MORE_REMEDY)
-    } else {
-        (&texts::SHARE_PARTS, &texts::SHARE_PARTS_REMEDY)
-    };
+    let (sentence, remedy) = share_texts(share, per);
     Ok(written.says(sentence, &values, at).helped(remedy, &[]))
 }

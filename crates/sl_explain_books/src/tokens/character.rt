@@ -1,7 +1,7 @@
 //! Characters that begin no token, and those that a text in quotes may not have.
 
 ghost use Rattle.std.specs.Prelude.{◌≡◌, IfOk, Some};
-ghost use Rattle.sl_explain_texts.specs.Messages.{IsFilledBy};
+ghost use Rattle.sl_explain_texts.specs.Messages.{IsFilledBy, IsSaidBy};
 ghost use Rattle.sl_explain_texts.specs.declared.code.FaultCode.TheVariants.{B03, B04};
 
 use crate::meant::method_of;
@@ -9,7 +9,7 @@ use crate::pieces::{character_len, piece, span_within};
 use crate::texts::meant::METHOD;
 use crate::texts::tokens as texts;
 use sl_base_quotients::NoMemory;
-use sl_explain_texts::{Explainer, Message, Span, Speaker};
+use sl_explain_texts::{Explainer, Message, Sentence, Span, Speaker};
 
 // The letters that stand just before an offset.
 fn letters_before(text: &[u8], at: usize) -> &[u8] {
@@ -32,17 +32,20 @@ fn parted_method(text: &[u8], at: usize) -> Option<&'static [u8]> {
     }
 }
 
-// What to do about a character of ASCII.
-fn ascii_remedy(byte: u8, next: u8, at: usize) -> &'static Message
+// What to do about a character of ASCII, by the bytes beside it.
+fn ascii_remedy(text: &[u8], at: usize) -> &'static Message
     ensures { IsFilledBy result.now 0 }
 {
-    match byte {
+    let before = byte_at(text, at.saturating_sub(1));
+    let next = byte_at(text, at.saturating_add(1));
+    match byte_at(text, at) {
         b'<' | b'>' | b'{' | b'[' | b'%' | b'.' if at == 0 => &texts::RIGHT_FILE,
         b'%' => &texts::PERCENT,
         b'.' => &texts::POINT,
         b'/' if next == b'/' || next == b'*' => &texts::COMMENT,
         b'-' if next == b'-' => &texts::COMMENT,
         b'-' => &texts::HYPHEN,
+        b'/' if before.is_ascii_digit() => &texts::PERCENT,
         b'/' | b'*' | b'+' | b'^' => &texts::ARITHMETIC,
         b'\'' | b'`' => &texts::QUOTES,
         b'<' | b'>' => &texts::COMPARED,
@@ -81,11 +84,12 @@ fn is_dash(character: &[u8]) -> bool {
     matches!(character, [0xE2, 0x80, 0x90..=0x95] | [0xE2, 0x88, 0x92])
 }
 
-// A character above ASCII.
-fn explain_wide(speaker: Speaker, character: &[u8], span: Span) -> Explainer
-    ensures { result.code ≡ Some B03 }
+// What is said of a character of several bytes.
+fn wide_texts(character: &[u8]) -> (&'static Sentence, &'static Message)
+    ensures sentence { IsSaidBy result.0.now 1 × (result.0.now.0 ≡ B03) }
+    ensures remedy { IsFilledBy result.1.now 0 }
 {
-    let (sentence, remedy) = if is_special_blank(character) {
+    if is_special_blank(character) {
         (&texts::INVISIBLE, &texts::BLANK)
     } else if is_curly(character) {
         (&texts::NO_LETTER, &texts::QUOTES)
@@ -93,7 +97,14 @@ fn explain_wide(speaker: Speaker, character: &[u8], span: Span) -> Explainer
         (&texts::NO_LETTER, &texts::HYPHEN)
     } else {
         (&texts::NO_LETTER, &texts::LETTER)
-    };
+    }
+}
+
+// A character above ASCII.
+fn explain_wide(speaker: Speaker, character: &[u8], span: Span) -> Explainer
+    ensures { result.code ≡ Some B03 }
+{
+    let (sentence, remedy) = wide_texts(character);
     let explainer = speaker.says_at(sentence, &[character], span);
     explainer.helped(remedy, &[])
 }
@@ -118,10 +129,9 @@ fn explain_ascii(speaker: Speaker, text: &[u8], at: usize, span: Span) -> Explai
     ensures { result.code ≡ Some B03 }
 {
     let explainer = speaker.says_at(&texts::UNEXPECTED, &[piece(text, span)], span);
-    let next = byte_at(text, at.saturating_add(1));
     match parted_method(text, at) {
         Some(method) => explainer.helped(&METHOD, &[method]),
-        None => explainer.helped(ascii_remedy(byte_at(text, at), next, at), &[]),
+        None => explainer.helped(ascii_remedy(text, at), &[]),
     }
 }
 

@@ -1,4 +1,4 @@
-use Rattle.sl_terminal_commands.proofs.Answering.{answers, answers_still, none_lost, said_with_tables}
+use Rattle.sl_terminal_commands.proofs.Answering.{answers, answers_still, as_before, both, none_lost, said_with_tables}
 use Rattle.sl_terminal_commands.proofs.Failing.{code_comes_to, comes_to}
 use Rattle.sl_terminal_commands.proofs.commands.Commands.answer.Goals as goal
 
@@ -31,3 +31,9 @@ pub returns-in-Report : goal.returns-in-Report
 returns-in-Report g c =
     let done = c.report.ensures in
     comes_to _ _ _ _ _ c.report.result c.answered-in-Report.result c.answered-in-Report.ensures (answers _ _ _ _ _ _ c.in-Report.is c.report.result done.output (said_with_tables c.report.result) done.done done.still (none_lost c.report.result))
+
+pub returns-in-Explain : goal.returns-in-Explain
+returns-in-Explain g c =
+    let done = c.explain.ensures in
+    comes_to _ _ _ _ _ c.explain.result c.answered-in-Explain.result c.answered-in-Explain.ensures
+    (answers_still _ _ _ _ _ _ c.in-Explain.is c.explain.result (both c.explain.result _ _ done.status done.text) done.said (as_before c.explain.result _ _ done.said) (none_lost c.explain.result))

@@ -10,6 +10,7 @@ use Rattle.sl_terminal_commands.proofs.Columns.{comparison_warns}
 use Rattle.sl_terminal_commands.proofs.commands.Commands.report.Goals as goal
 use Rattle.sl_terminal_commands.specs.Comparisons.{IsComparisonOf}
 use Rattle.sl_terminal_commands.specs.Requests.{IsReported, style_of}
+use Rattle.sl_terminal_commands.proofs.Warned.{quiet_warns}
 use Rattle.sl_terminal_commands.specs.Said.{IsSaid}
 use Rattle.sl_terminal_commands.specs.declared.answered.Answered.{Answered}
 use Rattle.sl_terminal_words.specs.declared.reports.Report.{Report}
@@ -79,3 +80,6 @@ returns-in-Compare-clause-output g c =
     )
     )
     c.report_comparison.ensures
+
+pub returns-in-Totals-clause-done : goal.returns-in-Totals-clause-done
+returns-in-Totals-clause-done g c = quiet_warns c.report_totals.result c.args.self.now.language c.report_totals.ensures.done
