@@ -22,12 +22,12 @@ from repository import PROGRAM
 
 # Words that German and English texts share, by the reason.
 SAME = {
-    "the same word in both languages": "an in In so was Name Code Version Text Divisor Exit",
+    "the same word in both languages": "an in In so was Name Code Version Text Divisor Exit Format",
     "German words that the English texts take over": "Land Länder Bundestag Bundeswahlgesetz Mehrheitsklausel",
     "names of the words of a command, and values of an option": "BOOK CODE NAME OUT RETURNS de en webster jefferson adams dean hill hamilton",
     "names of laws and stages of the library": "of order pool",
-    "names of formats and encodings": "ASCII BOM CSV HTML JSON Latin Markdown SLC UTF Unicode gzip zip",
-    "names of programs, people and files": "Droop Excel Hare Hondt Lagu LibreOffice Niemeyer Sainte Windows kerg",
+    "names of formats and encodings": "ASCII BOM CSV HTML JSON Latin Markdown RTF SLC UTF Unicode gzip zip",
+    "names of programs, people and files": "Droop Excel Hare Hondt Lagu LibreOffice Niemeyer Sainte TextEdit Windows kerg",
 }
 ALLOWED = {word for words in SAME.values() for word in words.split()}
 
