@@ -41,7 +41,7 @@ use Rattle.sl_law_examples.proofs.Tested.{settled_test, settled_by_test}
 no_names : (limit : ℕ) → AreNames limit []
 no_names limit = record { within = omega arith; spelled = All-nil _; once = λ name i j at there. absurd (none-some name at) }
 
-nothing : IsElection no_election
+pub nothing : IsElection no_election
 nothing = record {
   house = λ x none. absurd (none-some x none);
   lands = omega arith;

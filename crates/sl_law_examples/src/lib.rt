@@ -2,7 +2,7 @@
 //! `sl_law_fairness` rules out, in which a premise of a law is missing, or in which more votes cost a party a seat by a statute; and small ones in
 //! which the premises of a law are met.
 //!
-//! Stands on `sl_law_statutes`; nothing stands on it. Proved: all of it.
+//! Stands on `sl_law_statutes`; used by the room law. Proved: all of it.
 #![tactic(auto)]
 
 pub mod by_hand;

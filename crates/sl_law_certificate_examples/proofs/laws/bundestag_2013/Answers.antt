@@ -1,0 +1,5 @@
+use Rattle.sl_law_certificate_examples.proofs.Bundestag.{bundestag_2013}
+use Rattle.sl_law_certificate_examples.proofs.laws.bundestag_2013.Goals as goal
+
+pub returns : goal.returns
+returns c = bundestag_2013
