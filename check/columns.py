@@ -26,6 +26,7 @@ CELLS = {
     "nothing": "none",
     "a_number": "count",
     "known": "count_or_none",
+    "won_cell": "count_or_none",
     "a_change": "change",
     "change_since": "change_or_none",
     "change_cell": "change_or_none",

@@ -294,8 +294,11 @@ def check_press(book, returns):
     line = f"{book} {returns} --short"
     _, _, said = counted(book, returns)
     _, _, report = forms("report", "--short", book, returns)
-    *parties, total = report["tables"]["press"]
+    *rows, total = report["tables"]["press"]
+    parties, others = [row for row in rows if row["party"]], [row for row in rows if not row["party"]]
     check(total["seats"] == said["total"], f"{line}: total")
+    check(sum(row["seats"] for row in rows) == total["seats"], f"{line}: the rows do not sum to all")
+    check(len(others) <= 1 and all(row["won"] for row in others), f"{line}: winners without a party {others}")
     told = {row["party"]: (row["seats"], row["direct"]) for row in parties}
     check(all(said["party"][party] == seats for party, seats in told.items()), f"{line}: parties {told}")
     check(all(party in told for party, (seats, _) in said["party"].items() if seats), f"{line}: a party is missing")

@@ -38,8 +38,9 @@ class PartyReport(NamedTuple):
 
 
 class PressRow(NamedTuple):
-    """A row of the page for the press; that of all has no party. `won` are constituencies, `direct` those whose winner sits, `before` the seats of the
-    earlier table. A party that the returns do not have has no constituencies and votes, and that is None."""
+    """A row of the page for the press; that of all has no party, nor has that of the winners without one. `won` are constituencies, `direct` those whose
+    winner sits, and both are None where the returns have no winner; `before` are the seats of the earlier table. A party that the returns do not have has
+    no constituencies and votes, and that is None."""
 
     party: Optional[str]
     party_name: str
@@ -187,6 +188,7 @@ class WinnersOf(NamedTuple):
 
 
 class WarningText(NamedTuple):
+    code: str
     warning: str
     text: str
 

@@ -7,6 +7,7 @@
 mod checker;
 mod columns;
 pub mod laws;
+mod names;
 mod nodes;
 mod parts;
 mod shapes;
@@ -14,5 +15,6 @@ mod stages;
 
 pub use checker::check;
 pub use columns::Columns;
+pub use names::{is_one_of, names_one_of};
 pub use shapes::types_of;
 pub use sl_law_meaning::{CheckFault, CheckedBook};

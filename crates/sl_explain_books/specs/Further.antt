@@ -10,8 +10,9 @@ use Rattle.sl_law_meaning.specs.declared.book.LastClause.{LastClause}
 use Rattle.sl_law_meaning.specs.declared.book.Number.{Number}
 use Rattle.sl_law_meaning.specs.declared.check_fault.CheckFault.{CheckFault}
 use Rattle.sl_law_meaning.specs.declared.check_fault.CheckFault.TheVariants as fault
-use Rattle.sl_law_meaning.specs.book.Trees.{BookTree, ExprTree, StageTree, atleast, fact, grow, name, pair, split, sum, without as bare}
+use Rattle.sl_law_meaning.specs.book.Trees.{BookTree, StageTree}
 use Rattle.sl_law_meaning.specs.book.Typing.{check_fault}
+use Rattle.sl_check.specs.Names.{names_one_of}
 use Rattle.sl_explain_books.specs.declared.clause.Clause.{Clause}
 use Rattle.sl_explain_books.specs.declared.clause.Clause.TheVariants as clause
 use Rattle.sl_explain_books.specs.declared.further.Further.{Further}
@@ -68,16 +69,6 @@ is_stage _ at = false
 abbrev pub is_last : Clause → Bool
 is_last clause.Last = true
 is_last _ = false
-
--- an expression names one of these stages
-abbrev pub names_one_of : List (List ℕ) → ExprTree → Bool
-names_one_of names (fact at told) = false
-names_one_of names (name at n) = list_any (bytes_eq n) names
-names_one_of names (sum at e over) = names_one_of names e
-names_one_of names (pair at pairing l r) = names_one_of names l || names_one_of names r
-names_one_of names (split at s v method bare majority) = names_one_of names s || names_one_of names v
-names_one_of names (split at s v method (atleast m) majority) = names_one_of names s || (names_one_of names v || names_one_of names m)
-names_one_of names (grow at s v method m cap majority) = names_one_of names s || (names_one_of names v || names_one_of names m)
 
 -- a stage is left out that is the clause itself, and one that names a stage before it that is left out: nothing is known of what it names
 abbrev pub is_left_out : Clause → List (List ℕ) → StageTree → Bool

@@ -4,54 +4,15 @@ ghost use Rattle.std.specs.Prelude.{[], ◌++◌, ◌≡◌, IfOk, OnOk, filter,
 ghost use Rattle.std.specs.List.{list_any};
 ghost use Rattle.std.specs.Str.{bytes_eq};
 ghost use Rattle.sl_law_meaning.specs.book.Books.{book_of};
-ghost use Rattle.sl_law_meaning.specs.book.Trees.{stage_of, tree_of};
-ghost use Rattle.sl_explain_books.specs.Further.{base_left, condition_left, is_left_out, left_of, lost_with, names_lost, names_one_of, stages_left, without};
+ghost use Rattle.sl_law_meaning.specs.book.Trees.{stage_of};
+ghost use Rattle.sl_explain_books.specs.Further.{base_left, condition_left, is_left_out, left_of, lost_with, names_lost, stages_left, without};
 
 use crate::clause::Clause;
 use sl_base_quotients::NoMemory;
 use sl_book_copies::{copy_stage, copy_word};
-use sl_law_meaning::{Base, Book, Cond, Expr, LastClause, Stage, Word};
+use sl_check::{is_one_of, names_one_of};
+use sl_law_meaning::{Base, Book, Cond, LastClause, Stage, Word};
 use std::alloc::Global;
-
-fn is_one_of(name: &Word, names: &[Word]) -> bool
-    ensures { result ≡ list_any (bytes_eq name.now) names.now }
-{
-    names
-        .iter()
-        .any(|other| name.as_bytes() == other.as_bytes())
-}
-
-// Whether an expression names one of these stages.
-fn names_one_of(expr: &Expr, names: &[Word]) -> bool
-    ensures { result ≡ names_one_of names.now (tree_of expr.now) }
-{
-    match expr {
-        Expr::Fact { .. } => false,
-        Expr::Name { name, .. } => is_one_of(name, names),
-        Expr::Sum { of, .. } => names_one_of(of, names),
-        Expr::Pair { left, right, .. } => names_one_of(left, names) || names_one_of(right, names),
-        Expr::Split {
-            seats,
-            votes,
-            minima,
-            ..
-        } => {
-            let minima = match minima {
-                None => false,
-                Some(minima) => names_one_of(minima, names),
-            };
-            names_one_of(seats, names) || names_one_of(votes, names) || minima
-        }
-        Expr::Grow {
-            seats,
-            votes,
-            minima,
-            ..
-        } => {
-            names_one_of(seats, names) || names_one_of(votes, names) || names_one_of(minima, names)
-        }
-    }
-}
 
 // The stages that are left, and the names of those that are left out.
 #[derive(Drop)]

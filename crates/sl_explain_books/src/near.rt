@@ -21,18 +21,9 @@ fn names_of(alloc: Global, stages: &[Stage]) -> Result<Vec<&[u8]>, NoMemory> {
     Ok(names.collect(alloc)?)
 }
 
-/// Names in a row, each in backquotes.
-pub fn listed(speaker: Speaker, names: &[&[u8]]) -> Result<Vec<u8>, NoMemory> {
-    let mut quoted = Vec::new(speaker.alloc);
-    for name in names {
-        quoted.push(speaker.quoted(name)?)?;
-    }
-    speaker.all_of(quoted.as_slice())
-}
-
 // The names of stages in a row.
 fn listed_stages(speaker: Speaker, stages: &[Stage]) -> Result<Vec<u8>, NoMemory> {
-    listed(speaker, names_of(speaker.alloc, stages)?.as_slice())
+    speaker.all_quoted(names_of(speaker.alloc, stages)?.as_slice())
 }
 
 /// Adds the question whether a name is meant that is near to a word, and where none is near, what else to do.

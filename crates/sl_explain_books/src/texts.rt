@@ -276,7 +276,7 @@ pub(crate) mod tokens {
     pub(crate) const LONG_NAME: Sentence = (FaultCode::B06, "the word `{word:shown}` has {length} characters, and a word has at most {most}",
         "das Wort `{word:shown}` hat {length} Zeichen, und ein Wort hat höchstens {most}");
     pub(crate) const LONG_NAME_REMEDY: Message = ("shorten it, wherever the name stands",
-        "es kürzen, überall wo der Name steht");
+        "den Namen überall kürzen");
     pub(crate) const UNEXPECTED: Sentence = (FaultCode::B03, "a rulebook has no `{character}` outside of comments and quotes",
         "ein Regelwerk hat kein `{character}` außerhalb von Kommentaren und Anführungszeichen");
     pub(crate) const NO_LETTER: Sentence = (FaultCode::B03, "the character `{character:shown}` may stand in comments alone",

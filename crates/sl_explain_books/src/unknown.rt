@@ -4,7 +4,7 @@ ghost use Rattle.std.specs.Prelude.{◌≡◌, IfOk, Some};
 ghost use Rattle.sl_explain_texts.specs.Explainers.{Keeps};
 ghost use Rattle.sl_explain_texts.specs.declared.code.FaultCode.TheVariants.{B01, B22};
 
-use crate::near::{columns_of_returns, help_nearest_stage, help_stages, listed};
+use crate::near::{columns_of_returns, help_nearest_stage, help_stages};
 use crate::texts::unknown as texts;
 use sl_base_quotients::NoMemory;
 use sl_explain_texts::{Explainer, Explanation, Language, Speaker};
@@ -78,7 +78,7 @@ pub fn explain_unknown_statute(
     let statutes = statutes(alloc)?;
     let mut explainer = speaker.says(&texts::UNKNOWN_STATUTE, &[name.as_bytes()]);
     help_statute(&mut explainer, bare(name), statutes.as_slice())?;
-    explainer.helps_with(&texts::LIBRARY, listed(speaker, statutes.as_slice()));
+    explainer.helps_with(&texts::LIBRARY, speaker.all_quoted(statutes.as_slice()));
     explainer.finished()
 }
 

@@ -4,19 +4,10 @@ ghost use Rattle.std.specs.Prelude.{◌≡◌, IfSome, Some};
 
 use crate::pieces::span_within;
 use crate::texts::whole as texts;
-use sl_explain_texts::{Explainer, FaultCode, Speaker, packing_of};
+use sl_explain_texts::{Explainer, FaultCode, Speaker, is_utf16, packing_of};
 
 // The byte order mark of UTF-8.
 const MARK: &[u8] = b"\xEF\xBB\xBF";
-
-fn is_utf16(text: &[u8]) -> bool {
-    let first = text.first().copied().unwrap_or(1);
-    let second = text.get(1).copied().unwrap_or(1);
-    first == 0
-        || second == 0
-        || (first == 0xFF && second == 0xFE)
-        || (first == 0xFE && second == 0xFF)
-}
 
 // The bytes after a beginning, or all of them where it is not there.
 fn after<'a>(text: &'a [u8], beginning: &[u8]) -> &'a [u8] {

@@ -7,5 +7,6 @@
 
 mod table;
 mod texts;
+mod wrapped;
 
 pub use table::{Entry, entry_of, text_about};

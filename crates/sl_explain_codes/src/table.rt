@@ -3,7 +3,8 @@
 ghost use Rattle.std.specs.Prelude.{◌≡◌};
 
 use crate::texts::page::PAGE;
-use crate::texts::{code_files, grammar, legal, returns, tests};
+use crate::texts::{code_files, grammar, legal, returns, tests, warnings};
+use crate::wrapped::wrapped;
 use sl_base_quotients::NoMemory;
 use sl_explain_texts::{FaultCode, Language, Message, Speaker};
 use std::alloc::Global;
@@ -77,18 +78,40 @@ pub fn entry_of(code: FaultCode) -> &'static Entry
         FaultCode::C13 => &code_files::C13,
         FaultCode::C14 => &code_files::C14,
         FaultCode::C15 => &code_files::C15,
+        FaultCode::W01 => &warnings::W01,
+        FaultCode::W02 => &warnings::W02,
+        FaultCode::W03 => &warnings::W03,
+        FaultCode::W04 => &warnings::W04,
+        FaultCode::W05 => &warnings::W05,
+        FaultCode::W06 => &warnings::W06,
+        FaultCode::W07 => &warnings::W07,
+        FaultCode::W08 => &warnings::W08,
+        FaultCode::W09 => &warnings::W09,
+        FaultCode::W10 => &warnings::W10,
+        FaultCode::W11 => &warnings::W11,
+        FaultCode::W12 => &warnings::W12,
+        FaultCode::W13 => &warnings::W13,
+        FaultCode::W14 => &warnings::W14,
+        FaultCode::W15 => &warnings::W15,
+        FaultCode::W16 => &warnings::W16,
+        FaultCode::W17 => &warnings::W17,
+        FaultCode::W18 => &warnings::W18,
+        FaultCode::W19 => &warnings::W19,
+        FaultCode::W20 => &warnings::W20,
     }
 }
 
-/// What is to be said of a code, as a text: its title, what it means, an example, and what to do.
+/// What is to be said of a code, as a text in lines for a terminal: its title, what it means, an example, and what to do.
 pub fn text_about(alloc: Global, language: Language, code: FaultCode) -> Result<Vec<u8>, NoMemory> {
     let entry = entry_of(code);
+    let meaning = wrapped(alloc, language.text(&entry.meaning), "")?;
+    let remedy = wrapped(alloc, language.text(&entry.remedy), "  ")?;
     let values = [
         code.word().as_bytes(),
         language.text(&entry.title).as_bytes(),
-        language.text(&entry.meaning).as_bytes(),
+        meaning.as_slice(),
         entry.example.as_bytes(),
-        language.text(&entry.remedy).as_bytes(),
+        remedy.as_slice(),
     ];
     Speaker { alloc, language }.text(&PAGE, &values)
 }

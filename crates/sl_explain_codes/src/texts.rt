@@ -223,8 +223,8 @@ pub(crate) mod legal {
         meaning: ("More entries have equal claims than there are seats for them, and the lots of the returns do not decide among them.",
             "Mehr Einträge haben gleiche Ansprüche, als es für sie Sitze gibt, und die Lose der Wahlergebnisse entscheiden nicht zwischen ihnen."),
         example: "fault council all tie 2 Town/Reds Town/Blues Town/Greens",
-        remedy: ("Have the lot drawn by the person the statute designates. Write a `lot` record for each of the tied entries into the returns, the first drawn at the top, and count again. The explanation has the records.",
-            "Das Los ziehen lassen, wie das Gesetz es bestimmt. Für jeden der gleichen Einträge einen `lot`-Datensatz in die Wahlergebnisse schreiben, der zuerst Gezogene oben, und noch einmal zählen. Die Erklärung hat die Datensätze.") };
+        remedy: ("Have the lot drawn by the person the statute designates. Write a `lot` record for each of the tied entries into the returns, the first drawn at the top, and count again. The message after the count names the records.",
+            "Das Los ziehen lassen, wie das Gesetz es bestimmt. Für jeden der gleichen Einträge einen `lot`-Datensatz in die Wahlergebnisse schreiben, der zuerst Gezogene oben, und noch einmal zählen. Die Meldung nach dem Zählen nennt die Datensätze.") };
     pub static L05: Entry = Entry { code: FaultCode::L05,
         title: ("majority of votes without a majority of seats",
             "Mehrheit der Stimmen ohne Mehrheit der Sitze"),
@@ -427,4 +427,145 @@ pub(crate) mod tests {
         example: "seats upper cover;",
         remedy: ("Distribute the seats among the lists by one more stage, `stage lists = split(upper, counted, webster);`, and name that one.",
             "Die Sitze durch eine weitere Stufe auf die Listen verteilen, `stage lists = split(upper, counted, webster);`, und diese nennen.") };
+}
+
+// Warnings.
+#[rattlefmt::skip]
+pub(crate) mod warnings {
+    use crate::table::Entry;
+    use sl_explain_texts::FaultCode;
+
+    pub static W01: Entry = Entry { code: FaultCode::W01,
+        title: ("the same people in all Länder", "gleich viele Einwohner in allen Ländern"),
+        meaning: ("All Länder have the same number of people. The statute of 2013 distributes its first seats by them.",
+            "Alle Länder haben gleich viele Einwohner. Das Gesetz von 2013 verteilt seine ersten Sitze nach ihnen."),
+        example: "land,SH,,1,,",
+        remedy: ("Write the population of each Land into column a of its `land` record.",
+            "Die Einwohnerzahl jedes Landes in Spalte a seines `land`-Datensatzes schreiben.") };
+    pub static W02: Entry = Entry { code: FaultCode::W02,
+        title: ("Länder without winners", "Länder ohne Wahlkreissieger"),
+        meaning: ("No constituency of a Land has a winner, while others have: seats that depend on winners are missing there.",
+            "Kein Wahlkreis eines Landes hat einen Sieger, andere haben welche: Sitze, die von Siegern abhängen, fehlen dort."),
+        example: "warning[W02]: no constituency of BY has a winner",
+        remedy: ("Give a `win` record for each constituency of that Land.", "Für jeden Wahlkreis dieses Landes einen `win`-Datensatz angeben.") };
+    pub static W03: Entry = Entry { code: FaultCode::W03,
+        title: ("winners without any list", "Wahlkreissieger ohne jede Liste"),
+        meaning: ("A party has winners and no list in any Land.", "Eine Partei hat Wahlkreissieger und in keinem Land eine Liste."),
+        example: "win,BY,FW,220,60000,180000",
+        remedy: ("Give the lists of the party. Where it has none, and its winners are to count as independents, leave the cell of the party empty.",
+            "Die Listen der Partei angeben. Hat sie keine, und zählen ihre Sieger als Einzelbewerber, die Zelle der Partei leer lassen.") };
+    pub static W04: Entry = Entry { code: FaultCode::W04,
+        title: ("winners without a list in their Land", "Wahlkreissieger ohne Liste in ihrem Land"),
+        meaning: ("A party has winners in a Land in which it has no list, and lists elsewhere.",
+            "Eine Partei hat Wahlkreissieger in einem Land, in dem sie keine Liste hat, und Listen anderswo."),
+        example: "win,BY,CDU,220,60000,180000",
+        remedy: ("Look for a missing `list` record, and for another party of a similar name.",
+            "Nach einem fehlenden `list`-Datensatz suchen, und nach einer Partei ähnlichen Namens.") };
+    pub static W05: Entry = Entry { code: FaultCode::W05,
+        title: ("lists of which no vote is counted", "Listen, von denen keine Stimme zählt"),
+        meaning: ("Lists have valid votes in column a and 0 in column b, the votes that are counted.",
+            "Listen haben gültige Stimmen in Spalte a und 0 in Spalte b, den Stimmen, die zählen."),
+        example: "list,BY,CSU,2964028,0,",
+        remedy: ("Mostly both columns have the same number: all valid votes are counted.",
+            "Meist haben beide Spalten dieselbe Zahl: Alle gültigen Stimmen zählen.") };
+    pub static W06: Entry = Entry { code: FaultCode::W06,
+        title: ("several parties as one", "mehrere Parteien als eine"),
+        meaning: ("A party is called Sonstige, Andere, Others or the like. The votes of several parties take part as those of one, and may pass a threshold together.",
+            "Eine Partei heißt Sonstige, Andere, Others oder ähnlich. Die Stimmen mehrerer Parteien nehmen als die einer einzigen teil und kommen womöglich über eine Sperrklausel."),
+        example: "party,,Sonstige,0,,",
+        remedy: ("Give each party with its own votes. Where the sum alone is known, divide it among several parties, none of which passes the threshold.",
+            "Jede Partei mit ihren eigenen Stimmen angeben. Ist nur die Summe bekannt, sie auf mehrere Parteien verteilen, von denen keine über die Sperrklausel kommt.") };
+    pub static W07: Entry = Entry { code: FaultCode::W07,
+        title: ("lot where none is drawn", "Los, wo keines gezogen wird"),
+        meaning: ("A lot names a stage that distributes no seats, or that the rulebook does not have; or `seats`, where winners are not covered. It has no effect.",
+            "Ein Los nennt eine Stufe, die keine Sitze verteilt oder die es im Regelwerk nicht gibt; oder `seats`, wo Sieger nicht gedeckt werden. Es bewirkt nichts."),
+        example: "lot,,SPD,uper,,",
+        remedy: ("Take the stage from the line `fault STAGE ..`.", "Die Stufe aus der Zeile `fault STAGE ..` nehmen.") };
+    pub static W08: Entry = Entry { code: FaultCode::W08,
+        title: ("lot of nobody who is drawn", "Los von niemandem, der gezogen wird"),
+        meaning: ("A lot names none of the entries among which it would be drawn: a Land where the stage is by party, a party alone where it is by list. It has no effect.",
+            "Ein Los nennt niemanden, unter dem es gezogen würde: ein Land, wo die Stufe nach Parteien verteilt, eine Partei allein, wo sie nach Listen verteilt. Es bewirkt nichts."),
+        example: "lot,BY,CSU,upper,,",
+        remedy: ("Name those that stand in the line `fault`: parties, Länder, lists, or constituencies (docs/faults.md, section 1).",
+            "Die nennen, die in der Zeile `fault` stehen: Parteien, Länder, Listen oder Wahlkreise (docs/faults.md, Abschnitt 1).") };
+    pub static W09: Entry = Entry { code: FaultCode::W09,
+        title: ("another house than the rulebook's", "andere Hausgröße als im Regelwerk"),
+        meaning: ("The returns have a record `house` with another number of seats than the rulebook. The house of the returns is taken.",
+            "Die Ergebnisse haben einen Datensatz `house` mit einer anderen Sitzzahl als das Regelwerk. Es gilt die der Ergebnisse."),
+        example: "house,,,598,,",
+        remedy: ("Delete the record, if the house of the rulebook is meant.",
+            "Den Datensatz löschen, wenn die Hausgröße des Regelwerks gemeint ist.") };
+    pub static W10: Entry = Entry { code: FaultCode::W10,
+        title: ("few parties for a threshold", "wenige Parteien für eine Sperrklausel"),
+        meaning: ("The rulebook has a threshold of votes, and fewer than ten parties are given. A threshold is a share of all valid votes, those of the smallest parties too.",
+            "Das Regelwerk hat eine Sperrklausel nach Stimmen, und es sind weniger als zehn Parteien angegeben. Eine Sperrklausel ist ein Anteil an allen gültigen Stimmen, auch denen der kleinsten Parteien."),
+        example: "warning[W10]: 7 parties alone: a threshold needs the votes of all parties",
+        remedy: ("Give all parties, and compare the sum of the valid votes with the published one.",
+            "Alle Parteien angeben, und die Summe der gültigen Stimmen mit der veröffentlichten vergleichen.") };
+    pub static W11: Entry = Entry { code: FaultCode::W11,
+        title: ("Länder without votes", "Länder ohne Stimmen"),
+        meaning: ("A Land has people, and no valid vote of any list, while others have some. A file that was cut off at a line end looks like this.",
+            "Ein Land hat Einwohner und keine gültige Stimme für eine Liste, andere haben welche. So sieht eine Datei aus, die an einem Zeilenende abgeschnitten wurde."),
+        example: "warning[W11]: BY has people and no votes: is the file complete?",
+        remedy: ("Compare the length of the file with that of its source, and give the lists of that Land.",
+            "Die Länge der Datei mit der ihrer Quelle vergleichen, und die Listen dieses Landes angeben.") };
+    pub static W12: Entry = Entry { code: FaultCode::W12,
+        title: ("more valid votes than people", "mehr gültige Stimmen als Einwohner"),
+        meaning: ("The lists of a Land have more valid votes than the Land has people.",
+            "Die Listen eines Landes haben mehr gültige Stimmen, als das Land Einwohner hat."),
+        example: "list,BY,CSU,29640280,29640280,",
+        remedy: ("Look for a digit too many in a list, and for people that are given in thousands.",
+            "Nach einer Ziffer zu viel bei einer Liste suchen, und nach Einwohnern, die in Tausend angegeben sind.") };
+    pub static W13: Entry = Entry { code: FaultCode::W13,
+        title: ("few second votes beside the first votes", "wenige Zweitstimmen neben den Erststimmen"),
+        meaning: ("The lists of a Land have fewer than half as many valid votes as its constituencies.",
+            "Die Listen eines Landes haben weniger als halb so viele gültige Stimmen wie seine Wahlkreise."),
+        example: "list,SN,SPD,208,208,",
+        remedy: ("Look for votes that are given in thousands, and for lists that are missing.",
+            "Nach Stimmen suchen, die in Tausend angegeben sind, und nach fehlenden Listen.") };
+    pub static W14: Entry = Entry { code: FaultCode::W14,
+        title: ("a Land that is a sum", "ein Land, das eine Summe ist"),
+        meaning: ("A Land has as many valid votes as all others together, so that each vote may count twice.",
+            "Ein Land hat so viele gültige Stimmen wie alle anderen zusammen, so dass womöglich jede Stimme doppelt zählt."),
+        example: "land,Bund,,83577140,,",
+        remedy: ("Delete the records of that Land.", "Die Datensätze dieses Landes löschen.") };
+    pub static W15: Entry = Entry { code: FaultCode::W15,
+        title: ("a party that is a sum", "eine Partei, die eine Summe ist"),
+        meaning: ("A party is called Insgesamt, Summe, Total or the like. It takes part as a party of its own, with the votes of all others once more.",
+            "Eine Partei heißt Insgesamt, Summe, Total oder ähnlich. Sie nimmt als eigene Partei teil, mit den Stimmen aller anderen noch einmal."),
+        example: "party,,Insgesamt,0,,",
+        remedy: ("Delete the records of that party.", "Die Datensätze dieser Partei löschen.") };
+    pub static W16: Entry = Entry { code: FaultCode::W16,
+        title: ("minorities with lists everywhere", "Minderheiten mit Listen überall"),
+        meaning: ("Parties of national minorities, with 1 in column a of their `party` record, have lists in every Land. A threshold does not hold for them.",
+            "Parteien nationaler Minderheiten, mit 1 in Spalte a ihres `party`-Datensatzes, haben Listen in jedem Land. Für sie gilt keine Sperrklausel."),
+        example: "party,,FDP,1,,",
+        remedy: ("Write 0 there, if the party is none of a national minority.",
+            "Dort 0 schreiben, wenn die Partei keine einer nationalen Minderheit ist.") };
+    pub static W17: Entry = Entry { code: FaultCode::W17,
+        title: ("too few votes for the seats", "zu wenige Stimmen für die Sitze"),
+        meaning: ("A house of a hundred seats or more has fewer than a hundred valid votes for each seat. Percentages in place of votes look like this, and so do thousands.",
+            "Ein Haus mit hundert oder mehr Sitzen hat weniger als hundert gültige Stimmen je Sitz. So sehen Prozentzahlen anstelle von Stimmen aus, und auch Tausender."),
+        example: "list,Bund,CDU,2255,2255,",
+        remedy: ("Write votes, as they were counted: percentages are rounded, and give other seats.",
+            "Stimmen schreiben, wie sie gezählt wurden: Prozentzahlen sind gerundet und ergeben andere Sitze.") };
+    pub static W18: Entry = Entry { code: FaultCode::W18,
+        title: ("one party alone takes part", "nur eine Partei nimmt teil"),
+        meaning: ("Of several parties one alone meets the conditions of the rulebook, and gets all seats.",
+            "Von mehreren Parteien erfüllt nur eine die Bedingungen des Regelwerks, und sie bekommt alle Sitze."),
+        example: "eligible valid at least 5 per 10;",
+        remedy: ("Compare the threshold: five percent are `5 per 100`.", "Die Sperrklausel vergleichen: fünf Prozent sind `5 per 100`.") };
+    pub static W19: Entry = Entry { code: FaultCode::W19,
+        title: ("lot of one that gets no seats", "Los von einem, der keine Sitze bekommt"),
+        meaning: ("A lot names a party that takes no part, or a list that does not exist. It has no effect.",
+            "Ein Los nennt eine Partei, die nicht teilnimmt, oder eine Liste, die es nicht gibt. Es bewirkt nichts."),
+        example: "lot,,BSW,upper,,",
+        remedy: ("Name those that stand in the line `fault`.", "Die nennen, die in der Zeile `fault` stehen.") };
+    pub static W20: Entry = Entry { code: FaultCode::W20,
+        title: ("stages without effect", "Stufen ohne Wirkung"),
+        meaning: ("No other stage names a stage, and the last clause does not either, so no seat depends on it.",
+            "Weder eine andere Stufe noch die letzte Klausel nennt eine Stufe, so dass kein Sitz von ihr abhängt."),
+        example: "seats winners keep;",
+        remedy: ("Name the last stage in the last clause, as `seats lower cover;`, or delete the stages that nothing needs.",
+            "Die letzte Stufe in der letzten Klausel nennen, wie `seats lower cover;`, oder die Stufen löschen, die nichts braucht.") };
 }

@@ -7,7 +7,7 @@ ghost use Rattle.sl_explain_texts.specs.Messages.{IsFilledBy};
 
 use crate::case::Case;
 use crate::texts::files as texts;
-use sl_explain_texts::{Explainer, FaultCode, Message, Span, first_line, packing_of};
+use sl_explain_texts::{Explainer, FaultCode, Message, Span, first_line, is_utf16, packing_of};
 
 // The text after its first line.
 fn after_line(text: &[u8]) -> &[u8] {
@@ -27,12 +27,6 @@ fn is_book(bytes: &[u8]) -> bool {
         rest = after_line(rest);
     }
     false
-}
-
-// Whether bytes are of a text in UTF-16: after a byte order mark, or with a byte 0 in one of its first two.
-fn is_utf16(bytes: &[u8]) -> bool {
-    let has_mark = bytes.starts_with(b"\xFF\xFE") || bytes.starts_with(b"\xFE\xFF");
-    has_mark || bytes.iter().take(2).any(|byte| *byte == 0)
 }
 
 // What is said of a file that is no text, and what to do, by its first bytes.

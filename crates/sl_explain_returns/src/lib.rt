@@ -2,7 +2,7 @@
 //! the reader of returns hands on, and the place of a cell from its scanner, so no text is split here.
 //!
 //! Stands on `sl_explain_texts` and `sl_returns_places`; used by the room explain. Proved: the code of each explanation is that of the fault,
-//! and its place begins at a cell of the record that is refused.
+//! and its place begins at a cell of the record that is refused, or at an end of the text.
 //!
 //! Where an error is `NoMemory` alone, memory ran out, and nothing else is wrong.
 #![tactic(auto)]

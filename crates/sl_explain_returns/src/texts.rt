@@ -432,6 +432,10 @@ pub(crate) mod unknown {
     // What to do.
     pub(crate) const NEAREST_NAME: Message = ("did you mean `{name}`? Names are compared letter by letter",
         "war `{name}` gemeint? Namen werden Buchstabe für Buchstabe verglichen");
+    pub(crate) const LANDS_ABOVE: Message = ("the Länder above are {lands}", "die Länder darüber sind {lands}");
+    pub(crate) const PARTIES_ABOVE: Message = ("the parties above are {parties}", "die Parteien darüber sind {parties}");
+    pub(crate) const WINS_ABOVE: Message = ("the constituencies above are {constituencies}",
+        "die Wahlkreise darüber sind {constituencies}");
     pub(crate) const LATER: Message = ("line {line} declares it: move that record before this one, or all `land` and `party` records to the top",
         "der Name steht erst in Zeile {line}: jenen Datensatz vor diesen stellen, oder alle `land` und `party` nach oben");
     pub(crate) const IS_PARTY: Message = ("`{name}` is a party: the Land stands in the second column, the party in the third",

@@ -9,21 +9,13 @@ ghost use Rattle.sl_explain_texts.specs.Messages.{IsFilledBy};
 use crate::case::Case;
 use crate::texts::unknown as texts;
 use sl_base_quotients::NoMemory;
-use sl_explain_texts::{Explainer, FaultCode, Message, nearest};
+use sl_explain_texts::{Explainer, FaultCode, Message, is_sum, nearest};
 use sl_returns::{A, Before, Content, KIND, Kind, LAND, Named, PARTY};
 use sl_stages::Returns;
 use std::alloc::Global;
 
-// What rows of sums are called, in small letters.
-const SUMS: [&[u8]; 7] = [
-    b"total",
-    b"sum",
-    b"summe",
-    b"gesamt",
-    b"insgesamt",
-    b"bund",
-    b"bundesgebiet",
-];
+// The most names that are listed where another one stands.
+const MOST_NAMES: usize = 16;
 
 // What is written for a winner without a party, in small letters.
 #[rattlefmt::skip]
@@ -119,7 +111,28 @@ fn likely_name<'a>(
     }
 }
 
-// Adds a name that is likely meant, or that a row of sums is deleted.
+// How the names that there are begin.
+fn above_message(named: Named) -> &'static Message
+    ensures { IsFilledBy result.now 1 }
+{
+    match named {
+        Named::Land => &texts::LANDS_ABOVE,
+        Named::Party => &texts::PARTIES_ABOVE,
+        Named::Constituency => &texts::WINS_ABOVE,
+    }
+}
+
+// Adds which names there are, if they are few.
+fn add_names(explainer: &mut Explainer, named: Named, names: &[&[u8]])
+    ensures { Keeps explainer.old explainer.new }
+{
+    if !names.is_empty() && names.len() <= MOST_NAMES {
+        let names = explainer.speaker().all_quoted(names);
+        explainer.helps_with(above_message(named), names);
+    }
+}
+
+// Adds a name that is likely meant, or which names there are, or that a row of sums is deleted.
 fn add_nearest(
     case: &Case<'_>,
     named: Named,
@@ -128,14 +141,15 @@ fn add_nearest(
 ) -> Result<(), NoMemory>
     ensures { Keeps explainer.old explainer.new }
 {
-    if is_one_of(&SUMS, name) {
+    if is_sum(name) {
         explainer.helps(&texts::NO_SUMS, &[]);
         return Ok(());
     }
     let alloc = case.speaker.alloc;
     let names = names_of(alloc, case.taken, case.refused.before, named)?;
-    if let Some(near) = likely_name(alloc, name, names.as_slice())? {
-        explainer.helps(&texts::NEAREST_NAME, &[near]);
+    match likely_name(alloc, name, names.as_slice())? {
+        Some(near) => explainer.helps(&texts::NEAREST_NAME, &[near]),
+        None => add_names(explainer, named, names.as_slice()),
     }
     Ok(())
 }

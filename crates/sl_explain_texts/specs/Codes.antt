@@ -1,8 +1,8 @@
--- How each code of a fault is written, and which code a word is (docs/faults.md).
+-- How each code of a fault or of a warning is written, and which code a word is (docs/faults.md).
 use Rattle.std.specs.Prelude.{ℕ, List, [], ◌∷◌, Option, codes, find}
 use Rattle.std.specs.Str.{str_eq_ignore_ascii_case}
 use Rattle.sl_explain_texts.specs.declared.code.FaultCode.{FaultCode}
-use Rattle.sl_explain_texts.specs.declared.code.FaultCode.TheVariants.{B01, B02, B03, B04, B05, B06, B07, B08, B09, B10, B11, B12, B13, B14, B15, B16, B17, B18, B19, B20, B21, B22, R01, R02, R03, R04, R05, R06, R07, R08, R09, R10, R11, R12, L01, L02, L03, L04, L05, L06, C01, C02, C03, C04, C05, C06, C07, C08, C09, C10, C11, C12, C13, C14, C15}
+use Rattle.sl_explain_texts.specs.declared.code.FaultCode.TheVariants.{B01, B02, B03, B04, B05, B06, B07, B08, B09, B10, B11, B12, B13, B14, B15, B16, B17, B18, B19, B20, B21, B22, R01, R02, R03, R04, R05, R06, R07, R08, R09, R10, R11, R12, L01, L02, L03, L04, L05, L06, C01, C02, C03, C04, C05, C06, C07, C08, C09, C10, C11, C12, C13, C14, C15, W01, W02, W03, W04, W05, W06, W07, W08, W09, W10, W11, W12, W13, W14, W15, W16, W17, W18, W19, W20}
 
 -- a code as it is written: the letter of what is at fault, and a number
 abbrev pub code_word : FaultCode → List ℕ
@@ -61,9 +61,29 @@ code_word C12 = codes "C12"
 code_word C13 = codes "C13"
 code_word C14 = codes "C14"
 code_word C15 = codes "C15"
+code_word W01 = codes "W01"
+code_word W02 = codes "W02"
+code_word W03 = codes "W03"
+code_word W04 = codes "W04"
+code_word W05 = codes "W05"
+code_word W06 = codes "W06"
+code_word W07 = codes "W07"
+code_word W08 = codes "W08"
+code_word W09 = codes "W09"
+code_word W10 = codes "W10"
+code_word W11 = codes "W11"
+code_word W12 = codes "W12"
+code_word W13 = codes "W13"
+code_word W14 = codes "W14"
+code_word W15 = codes "W15"
+code_word W16 = codes "W16"
+code_word W17 = codes "W17"
+code_word W18 = codes "W18"
+code_word W19 = codes "W19"
+code_word W20 = codes "W20"
 
 abbrev pub all_codes : List FaultCode
-all_codes = B01 ∷ B02 ∷ B03 ∷ B04 ∷ B05 ∷ B06 ∷ B07 ∷ B08 ∷ B09 ∷ B10 ∷ B11 ∷ B12 ∷ B13 ∷ B14 ∷ B15 ∷ B16 ∷ B17 ∷ B18 ∷ B19 ∷ B20 ∷ B21 ∷ B22 ∷ R01 ∷ R02 ∷ R03 ∷ R04 ∷ R05 ∷ R06 ∷ R07 ∷ R08 ∷ R09 ∷ R10 ∷ R11 ∷ R12 ∷ L01 ∷ L02 ∷ L03 ∷ L04 ∷ L05 ∷ L06 ∷ C01 ∷ C02 ∷ C03 ∷ C04 ∷ C05 ∷ C06 ∷ C07 ∷ C08 ∷ C09 ∷ C10 ∷ C11 ∷ C12 ∷ C13 ∷ C14 ∷ C15 ∷ []
+all_codes = B01 ∷ B02 ∷ B03 ∷ B04 ∷ B05 ∷ B06 ∷ B07 ∷ B08 ∷ B09 ∷ B10 ∷ B11 ∷ B12 ∷ B13 ∷ B14 ∷ B15 ∷ B16 ∷ B17 ∷ B18 ∷ B19 ∷ B20 ∷ B21 ∷ B22 ∷ R01 ∷ R02 ∷ R03 ∷ R04 ∷ R05 ∷ R06 ∷ R07 ∷ R08 ∷ R09 ∷ R10 ∷ R11 ∷ R12 ∷ L01 ∷ L02 ∷ L03 ∷ L04 ∷ L05 ∷ L06 ∷ C01 ∷ C02 ∷ C03 ∷ C04 ∷ C05 ∷ C06 ∷ C07 ∷ C08 ∷ C09 ∷ C10 ∷ C11 ∷ C12 ∷ C13 ∷ C14 ∷ C15 ∷ W01 ∷ W02 ∷ W03 ∷ W04 ∷ W05 ∷ W06 ∷ W07 ∷ W08 ∷ W09 ∷ W10 ∷ W11 ∷ W12 ∷ W13 ∷ W14 ∷ W15 ∷ W16 ∷ W17 ∷ W18 ∷ W19 ∷ W20 ∷ []
 
 -- the code that is written so, in capital or in small letters, if there is one
 abbrev pub code_named : List ℕ → Option FaultCode

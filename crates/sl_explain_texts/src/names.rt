@@ -1,4 +1,8 @@
-//! The name that a misspelt one was likely meant for.
+//! The name that a misspelt one was likely meant for, and names that stand for a sum.
+
+ghost use Rattle.std.specs.Prelude.{◌≡◌};
+ghost use Rattle.std.specs.Str.{str_eq_ignore_ascii_case};
+ghost use Rattle.sl_explain_texts.specs.Sums.{is_sum};
 
 use sl_base_quotients::NoMemory;
 use std::alloc::Global;
@@ -37,4 +41,30 @@ pub fn nearest<'a>(
         }
     }
     Ok(found)
+}
+
+// Whether a name is a word, in capital or in small letters.
+fn is_word(name: &[u8], word: &str) -> bool
+    ensures { result ≡ str_eq_ignore_ascii_case name.now word.now }
+{
+    name.eq_ignore_ascii_case(word.as_bytes())
+}
+
+/// Whether a name, in capital or in small letters, is what a row of sums is called, such as `Insgesamt`.
+pub fn is_sum(name: &[u8]) -> bool
+    ensures { result ≡ is_sum name.now }
+{
+    is_word(name, "total")
+        || is_word(name, "totals")
+        || is_word(name, "sum")
+        || is_word(name, "summe")
+        || is_word(name, "summen")
+        || is_word(name, "gesamt")
+        || is_word(name, "insgesamt")
+        || is_word(name, "zusammen")
+        || is_word(name, "alle")
+        || is_word(name, "all")
+        || is_word(name, "bund")
+        || is_word(name, "bundesgebiet")
+        || is_word(name, "deutschland")
 }

@@ -1,4 +1,4 @@
-//! Files that are compressed, by their first bytes.
+//! Files that are compressed, or no text in UTF-8, by their first bytes.
 
 // The first bytes of compressed files, and what the compression is called.
 const PACKED: [(&[u8], &str); 7] = [
@@ -19,4 +19,10 @@ pub fn packing_of(bytes: &[u8]) -> Option<&'static str> {
         }
     }
     None
+}
+
+/// Whether bytes are of a text in UTF-16: after a byte order mark, or with a byte 0 in one of its first two.
+pub fn is_utf16(bytes: &[u8]) -> bool {
+    let has_mark = bytes.starts_with(b"\xFF\xFE") || bytes.starts_with(b"\xFE\xFF");
+    has_mark || bytes.iter().take(2).any(|byte| *byte == 0)
 }

@@ -177,4 +177,12 @@ impl Speaker {
     {
         Ok([b"`".as_slice(), word, b"`"].concat(self.alloc)?)
     }
+    /// Words in a row, each between backquotes, with an `and` before the last.
+    pub fn all_quoted(self, words: &[&[u8]]) -> Result<Vec<u8>, NoMemory> {
+        let mut quoted = Vec::new(self.alloc);
+        for word in words {
+            quoted.push(self.quoted(word)?)?;
+        }
+        self.all_of(quoted.as_slice())
+    }
 }

@@ -1,5 +1,5 @@
 -- The seats of parties, as the lines of a seat table have them.
-use Rattle.std.specs.Prelude.{ℕ, ◌+◌, Bool, true, false, ◌&&◌, List, sum_by, count_by, nat_eq, if◌then◌else◌}
+use Rattle.std.specs.Prelude.{ℕ, ◌+◌, Bool, true, false, ◌&&◌, List, sum_by, count_by, is_none, nat_eq, if◌then◌else◌}
 use Rattle.std.specs.List.{zip}
 use Rattle.sl_law_meaning.specs.declared.election.Win.{Win}
 use Rattle.sl_law_meaning.specs.declared.table.ListSeats.{ListSeats}
@@ -47,3 +47,7 @@ all_seats t = record {
   direct = capped (count_by is_seated t.placed);
   vacant = capped (sum_by (λ l. l.vacant) t.lists);
 }
+
+-- the winners without a party who are seated, each as a single
+abbrev pub seats_without_party : SeatTable → Election → ℕ
+seats_without_party t e = count_by (λ x. is_none x.0.party && is_single x.1) (zip e.wins t.placed)

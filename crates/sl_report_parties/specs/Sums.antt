@@ -33,3 +33,7 @@ capped n = min n (2 ^ 64 - 1)
 -- how many lists a party has
 abbrev pub lists_of : Election → ℕ → ℕ
 lists_of e party = count_by (λ land. has_list e land party) (lands e)
+
+-- the valid first votes of the constituencies of a Land that have a winner
+abbrev pub first_votes_in : Election → ℕ → ℕ
+first_votes_in e land = sum_by (λ w. if is_in land w then w.valid else 0) e.wins

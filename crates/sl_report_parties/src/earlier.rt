@@ -8,7 +8,7 @@ use sl_base_quotients::NoMemory;
 use sl_stages::Returns;
 use std::alloc::Global;
 
-/// A party of an earlier seat table: its name, and its seats.
+/// A party of an earlier seat table: its name, and its seats. One without a name stands for those who sat without a party.
 #[derive(Clone, Copy)]
 pub struct EarlierParty<'a> {
     pub name: &'a str,
@@ -16,7 +16,7 @@ pub struct EarlierParty<'a> {
 }
 
 /// The seats of the party of that name in an earlier table, none where it has no such party.
-pub(crate) fn seats_before(name: &[u8], earlier: &[EarlierParty<'_>]) -> u64
+pub fn seats_before(name: &[u8], earlier: &[EarlierParty<'_>]) -> u64
     ensures { result ≡ seats_before name.now earlier.now }
 {
     let found = earlier.iter().find(
@@ -49,7 +49,10 @@ fn push_gone<'a>(
 ) -> Result<(), NoMemory>
     ensures { OnOk result (found.new.items ≡ found.old.items ++ filter (is_gone returns.now) (party.entry ∷ [])) }
 {
-    if party.seats > 0 && returns.find_party(party.name.as_bytes()).is_none() {
+    if !party.name.is_empty()
+        && party.seats > 0
+        && returns.find_party(party.name.as_bytes()).is_none()
+    {
         found.push(party)?;
     }
     Ok(())

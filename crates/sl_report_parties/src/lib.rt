@@ -19,12 +19,12 @@ mod winner_counts;
 mod winners;
 
 pub use contests::{Ranked, contested};
-pub use earlier::{EarlierParty, all_before, gone};
+pub use earlier::{EarlierParty, all_before, gone, seats_before};
 pub use facts::{Setting, house_of};
 pub use lacking::{lacking_votes, lacking_winners};
 pub use parts::{PartyPart, parts_of};
 pub use press::{Pressed, Standing, by_seats, left_out};
-pub use seats::{Seats, seats_by_party, seats_in_all};
+pub use seats::{Seats, seats_by_party, seats_in_all, seats_without_party};
 pub use totals::{all_lists, all_people, lists_of, open_winners};
-pub use votes::{Votes, all_votes, land_votes, one_if, winners_of};
+pub use votes::{Votes, all_votes, first_votes_in, land_votes, one_if, winners_of};
 pub use winner_counts::WinnerCounts;

@@ -1,14 +1,15 @@
 //! The seats of parties, as a seat table has them.
 
-ghost use Rattle.std.specs.Prelude.{◌≡◌, ◌+◌, [], IfOk, map};
+ghost use Rattle.std.specs.List.{zip};
+ghost use Rattle.std.specs.Prelude.{◌≡◌, ◌&&◌, ◌+◌, [], IfOk, count_by, is_none, map};
 ghost use Rattle.sl_law_meaning.specs.returns.Facts.{parties};
 ghost use Rattle.sl_report_parties.specs.Sums.{capped};
-ghost use Rattle.sl_report_parties.specs.Seats.{party_seats, all_seats};
+ghost use Rattle.sl_report_parties.specs.Seats.{all_seats, is_single, party_seats, seats_without_party};
 ghost use Rattle.sl_report_parties.specs.inner.PartySeats.{AreSeats, IsWith, seats_placed};
 
 use crate::votes::one_if;
 use sl_base_quotients::NoMemory;
-use sl_stages::{ListSeats, Placed, Returns, Table};
+use sl_stages::{ListSeats, Placed, Returns, Table, Win};
 use std::alloc::Global;
 
 /// Seats: all of them, those of constituency winners, and the vacant ones.
@@ -104,6 +105,25 @@ pub fn seats_in_all(table: &Table) -> Seats
     for place in table.placed() {
         let more = seats_placed(*place);
         seats = seats.and(more.seats, more.direct, more.vacant);
+    }
+    seats
+}
+
+// Whether a winner without a party sits as a single.
+fn is_alone(win: Win, place: Placed) -> bool
+    ensures { result ≡ (is_none win.party && is_single place) }
+{
+    win.party.is_none() && matches!(place, Placed::Single)
+}
+
+/// The winners without a party who are seated.
+pub fn seats_without_party(table: &Table, returns: &Returns) -> u64
+    ensures { result ≡ seats_without_party table.now returns.now }
+{
+    let placed = table.placed();
+    let mut seats = 0u64;
+    for number in 0..returns.wins().min(placed.len()) {
+        seats += one_if(is_alone(returns.win(number), placed[number]));
     }
     seats
 }

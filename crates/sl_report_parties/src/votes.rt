@@ -1,10 +1,10 @@
 //! Votes and winners, summed.
 
-ghost use Rattle.std.specs.Prelude.{◌≡◌, ◌<◌, ◌^◌, count_by};
+ghost use Rattle.std.specs.Prelude.{◌≡◌, ◌<◌, ◌^◌, count_by, if◌then◌else◌};
 ghost use Rattle.sl_law_meaning.specs.returns.Election.{lands_of, parties_of};
 ghost use Rattle.sl_law_meaning.specs.returns.Votes.{valid_in, counted_in};
-ghost use Rattle.sl_law_meaning.specs.returns.Facts.{valid_votes, all_valid_votes};
-ghost use Rattle.sl_report_parties.specs.Sums.{party_sum, land_sum, sum_in_all, is_with, one_if};
+ghost use Rattle.sl_law_meaning.specs.returns.Facts.{valid_votes, all_valid_votes, is_in};
+ghost use Rattle.sl_report_parties.specs.Sums.{first_votes_in, party_sum, land_sum, sum_in_all, is_with, one_if};
 
 use sl_stages::{Returns, Win};
 
@@ -89,4 +89,26 @@ pub fn winners_of(returns: &Returns, party: Option<usize>) -> u64
         winners += one_if(is_of(returns.win(number), party));
     }
     winners
+}
+
+// The valid first votes of a winner's constituency, if it is of that Land.
+fn first_votes(win: Win, land: usize) -> u64
+    ensures { result ≡ if is_in land win then win.valid else 0 }
+{
+    if win.land == land {
+        u64::from(win.valid)
+    } else {
+        0
+    }
+}
+
+/// The valid first votes of the constituencies of a Land that have a winner.
+pub fn first_votes_in(returns: &Returns, land: usize) -> u64
+    ensures { result ≡ first_votes_in returns.now land }
+{
+    let mut votes = 0u64;
+    for number in 0..returns.wins() {
+        votes += first_votes(returns.win(number), land);
+    }
+    votes
 }

@@ -1,11 +1,11 @@
 -- The words of a line, by where it is cut at its first blank; and lines, one more.
-use Rattle.std.proofs.Common.{◌≡◌, ℕ, ◌+◌, ◌<◌, Bool, true, false, cond, List, [], ◌∷◌, ◌++◌, Option, None, Some, length, arith, ap, is_some, map, not, refl, suc, sym, take, true≢false, ◌∙◌, ◌||◌, ◌&&◌}
+use Rattle.std.proofs.Common.{◌≡◌, ℕ, ◌+◌, ◌<◌, Bool, true, false, cond, List, [], ◌∷◌, ◌++◌, Option, None, Some, length, arith, ap, is_some, map, not, refl, suc, sym, take, true≢false, ◌∙◌, ◌||◌, ◌&&◌, ◌-◌}
 use Rattle.std.specs.Borrow.{Bor}
-use Rattle.std.specs.List.{after_first, before_first, cons_option, filter_map, list_all, list_any, position, position_or_len}
-use Rattle.std.specs.Prelude.{MatchOption, codes, if◌then◌else◌, nat_eq, nat_lt, slice_get}
+use Rattle.std.specs.List.{after_first, before_first, cons_option, filter_map, fold, list_all, list_any, position, position_or_len}
+use Rattle.std.specs.Prelude.{MatchOption, codes, if◌then◌else◌, nat_eq, nat_lt, slice_get, sum_by}
 use Rattle.std.specs.Str.Lines.{lines}
 use Rattle.std.proofs.lemmas.Bool.{lt-ltb}
-use Rattle.std.proofs.lemmas.List.{length-map, take_more}
+use Rattle.std.proofs.lemmas.List.{length-map, map-append, take_more}
 use Rattle.std.proofs.lemmas.List.Folds.{list_all-map}
 use Rattle.std.proofs.lemmas.List.Elements.{All-from_get_or, filter_map-append}
 use Rattle.std.proofs.lemmas.Option.{get_or_from_slice_get, slice_get_within}
@@ -13,7 +13,10 @@ use Rattle.std.proofs.lemmas.List.Splits.{length-slice_split, slice_split_first,
 use Rattle.std.proofs.lemmas.List.Sums.{fails_before_first}
 use Rattle.std.specs.Str.{bytes_eq}
 use Rattle.sl_returns.specs.Cells.{is_number, number_of}
-use Rattle.sl_report_tables.specs.Earlier.{is_line, is_table, table_parties, told_party, words}
+use Rattle.sl_report_parties.specs.Earlier.{all_before}
+use Rattle.sl_report_parties.specs.Sums.{capped}
+use Rattle.sl_report_parties.specs.declared.earlier.EarlierParty.{EarlierParty}
+use Rattle.sl_report_tables.specs.Earlier.{is_line, is_table, others_told, party_told, told_parties, told_party, total_told, with_others, words}
 use Rattle.sl_report_parties.proofs.Steps.{any_is}
 
 pub one_word : (line : List ℕ) → position_or_len (λ b. nat_eq b 32) line ≡ length line → words line ≡ line ∷ []
@@ -160,9 +163,26 @@ table_is text all are =
     ∙ ap (λ n. nat_lt 0 n && list_all is_line (map (λ l. l.now) all)) (length-map all (λ l. l.now))
     ∙ ap (λ b. nat_lt 0 (length all) && b) (list_all-map is_line (λ l. l.now) all)
 
-pub parties_are : (text : List ℕ) (all : List (Bor (List ℕ))) → map (λ l. l.now) all ≡ lines text → filter_map (λ l. told_party (words l.now)) all ≡ table_parties text
-parties_are text all are = each all ∙ ap (filter_map (λ l. told_party (words l))) are
+-- the parties that lines tell, lent or not
+told_each : (ls : List (Bor (List ℕ))) → filter_map (λ l. told_party (words l.now)) ls ≡ told_parties (map (λ l. l.now) ls)
+told_each [] = refl
+told_each (l ∷ ls) = ap (cons_option (told_party (words l.now))) (told_each ls)
+
+told_seats : (n : ℕ) (ps : List EarlierParty) → fold (λ m p. m + p.seats) n ps ≡ fold (λ m p. m + p.1) n (map party_told ps)
+told_seats n [] = refl
+told_seats n (p ∷ ps) = told_seats (n + p.seats) ps
+
+-- with those who sit without a party behind the parties that lines tell, these are all
+pub all_told : (lines : List (Bor (List ℕ))) (found new : List EarlierParty) (x : EarlierParty) → map party_told found ≡ filter_map (λ l. told_party (words l.now)) lines →
+    x.name.now ≡ [] → x.seats ≡ total_told (map (λ l. l.now) lines) - all_before found → new ≡ found ++ x ∷ [] → map party_told new ≡ with_others (map (λ l. l.now) lines)
+all_told lines found new x are name seats pushed =
+    ap (map party_told) pushed ∙ map-append party_told found (x ∷ []) ∙ ap (λ ps. ps ++ party_told x ∷ []) told ∙ ap (λ p. told_parties texts ++ p ∷ []) (λ i. (name i, amount i))
   where
-    each : (ls : List (Bor (List ℕ))) → filter_map (λ l. told_party (words l.now)) ls ≡ filter_map (λ l. told_party (words l)) (map (λ l. l.now) ls)
-    each [] = refl
-    each (l ∷ ls) = ap (cons_option (told_party (words l.now))) (each ls)
+    texts : List (List ℕ)
+    texts = map (λ l. l.now) lines
+
+    told : map party_told found ≡ told_parties texts
+    told = are ∙ told_each lines
+
+    amount : x.seats ≡ others_told texts
+    amount = seats ∙ ap (λ n. total_told texts - capped n) (told_seats 0 found ∙ ap (sum_by (λ p. p.1)) told)

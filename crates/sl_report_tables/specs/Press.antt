@@ -1,24 +1,25 @@
 -- The tables of a press report (docs/report.md).
 use Rattle.std.specs.List.{AllZip}
-use Rattle.std.specs.Prelude.{◌≡◌, ℕ, Bool, true, false, List, [], ◌∷◌, ◌++◌, Option, None, Some, codes, filter, length, map, option_map, take}
+use Rattle.std.specs.Prelude.{◌≡◌, ℕ, Bool, true, false, List, [], ◌∷◌, ◌++◌, Option, None, Some, codes, count_by, filter, if◌then◌else◌, map, nat_lt, option_map, take, unwrap_or, ◌||◌}
 use Rattle.sl_report_forms.specs.Cells.{Content, a_change, a_number, a_text, a_word, an_entry, known, nothing, prose}
 use Rattle.sl_report_forms.specs.Tables.{Column, Table}
-use Rattle.sl_report_parties.specs.Earlier.{all_before, is_gone}
+use Rattle.sl_report_parties.specs.Earlier.{all_before, is_gone, seats_before}
 use Rattle.sl_report_parties.specs.Lacking.{AreVotesFor, AreWinnersFor, Lacks}
 use Rattle.sl_report_parties.specs.Press.{AreLeftOut}
-use Rattle.sl_report_parties.specs.Seats.{all_seats}
+use Rattle.sl_report_parties.specs.Seats.{all_seats, seats_without_party}
+use Rattle.sl_report_parties.specs.Sums.{is_with}
 use Rattle.sl_report_parties.specs.declared.earlier.EarlierParty.{EarlierParty}
 use Rattle.sl_report_parties.specs.declared.press.Pressed.{Pressed}
 use Rattle.sl_report_parties.specs.declared.press.Standing.{Standing}
 use Rattle.sl_report_results.specs.declared.scopes.Scoped.{Scoped}
 use Rattle.sl_report_tables.specs.Columns.{listed}
-use Rattle.sl_report_tables.specs.Parts.{full_name, rounded_cell}
+use Rattle.sl_report_tables.specs.Parts.{full_name, percent_cell, rounded_cell}
 use Rattle.sl_law_meaning.specs.declared.book.Cond.{Cond}
 use Rattle.sl_law_meaning.specs.declared.fault.Item.TheVariants as item
 use Rattle.sl_law_meaning.specs.declared.fault.Scope.TheVariants as scope
 use Rattle.sl_law_meaning.specs.declared.fault.Scope.{Scope}
 use Rattle.sl_law_meaning.specs.meaning.Tables.{SeatTable}
-use Rattle.sl_law_meaning.specs.returns.Election.{Election}
+use Rattle.sl_law_meaning.specs.returns.Election.{Election, wins_of}
 use Rattle.sl_law_meaning.specs.returns.Facts.{all_valid_votes}
 use Rattle.sl_report_tables.specs.declared.press.TheConstants.{BOTH_NAMES, LEFT_OUT, ONE_NAME, PRESS}
 
@@ -29,13 +30,17 @@ abbrev pub change_since : (seats : ℕ) → Option ℕ → Content
 change_since seats None = nothing
 change_since seats (Some before) = a_change seats before
 
--- a party, of so many valid votes in all
-abbrev pub press_row : (valid : ℕ) → Pressed → List Content
-press_row valid p =
+-- a number of winners, where the returns have some
+abbrev pub won_cell : Election → ℕ → Content
+won_cell e winners = if nat_lt 0 (wins_of e) then a_number winners else nothing
+
+-- a party
+abbrev pub press_row : Election → Pressed → List Content
+press_row e p =
     an_entry (item.Party p.party) ∷ full_name (item.Party p.party)
     ∷ a_number p.seats.seats ∷ known p.before ∷ change_since p.seats.seats p.before
-    ∷ a_number p.part.winners ∷ a_number p.seats.direct ∷ a_number p.part.votes.valid
-    ∷ rounded_cell p.part.votes.valid valid ∷ []
+    ∷ won_cell e p.part.winners ∷ won_cell e p.seats.direct ∷ a_number p.part.votes.valid
+    ∷ rounded_cell p.part.votes.valid (all_valid_votes e) ∷ []
 
 -- a party that had seats, and that the returns do not have, by its name and a full one
 abbrev pub gone_row : EarlierParty → List Content
@@ -45,12 +50,27 @@ abbrev pub gone_rows : Election → Option (List EarlierParty) → List (List Co
 gone_rows e None = []
 gone_rows e (Some earlier) = map gone_row (filter (is_gone e) earlier)
 
+-- the seats of winners without a party, now and before, and the constituencies that they won
+abbrev pub others_before : Option (List EarlierParty) → Option ℕ
+others_before earlier = option_map (seats_before []) earlier
+
+abbrev pub others_row : Election → SeatTable → Option (List EarlierParty) → List Content
+others_row e t earlier =
+    nothing ∷ a_word (codes "without a party") (codes "ohne Partei")
+    ∷ a_number (seats_without_party t e) ∷ known (others_before earlier) ∷ change_since (seats_without_party t e) (others_before earlier)
+    ∷ a_number (count_by (is_with None) e.wins) ∷ a_number (seats_without_party t e) ∷ nothing ∷ nothing ∷ []
+
+-- their row, where some won a constituency, or sat before
+abbrev pub others_rows : Election → SeatTable → Option (List EarlierParty) → List (List Content)
+others_rows e t earlier =
+    if nat_lt 0 (count_by (is_with None) e.wins) || nat_lt 0 (unwrap_or (others_before earlier) 0) then others_row e t earlier ∷ [] else []
+
 -- the seats of all, now and before, the constituencies with a winner, the winners who are seated, and all valid votes
 abbrev pub sum_row : Election → SeatTable → Option (List EarlierParty) → List Content
 sum_row e t earlier =
     nothing ∷ a_word (codes "all") (codes "alle")
     ∷ a_number (all_seats t).seats ∷ known (option_map all_before earlier) ∷ change_since (all_seats t).seats (option_map all_before earlier)
-    ∷ a_number (length e.wins) ∷ a_number (all_seats t).direct ∷ a_number (all_valid_votes e)
+    ∷ won_cell e (wins_of e) ∷ won_cell e (all_seats t).direct ∷ a_number (all_valid_votes e)
     ∷ rounded_cell (all_valid_votes e) (all_valid_votes e) ∷ []
 
 -- the columns of the names of a party, where full names are given and where none are
@@ -62,7 +82,7 @@ abbrev pub press_table : (are_full : Bool) → Election → SeatTable → Option
 press_table are_full e t earlier pressed = record {
   key = codes "press";
   columns = named_columns are_full ++ listed PRESS;
-  rows = map (press_row (all_valid_votes e)) pressed ++ (gone_rows e earlier ++ sum_row e t earlier ∷ []);
+  rows = map (press_row e) pressed ++ (gone_rows e earlier ++ (others_rows e t earlier ++ sum_row e t earlier ∷ []));
 }
 
 -- ---- who won the last seats of the country, and who has the next claims
@@ -82,7 +102,7 @@ is_whole s = is_all s.scope
 -- its votes, and what it lacks for the nearest condition on votes and on winners
 abbrev pub lacking_row : Election → Standing → (votes winners : Option ℕ) → List Content
 lacking_row e s votes winners =
-    an_entry (item.Party s.party) ∷ full_name (item.Party s.party) ∷ a_number s.part.votes.valid ∷ rounded_cell s.part.votes.valid (all_valid_votes e) ∷ known votes ∷ known winners ∷ []
+    an_entry (item.Party s.party) ∷ full_name (item.Party s.party) ∷ a_number s.part.votes.valid ∷ percent_cell s.part.votes.valid (all_valid_votes e) ∷ known votes ∷ known winners ∷ []
 
 pub record IsLackingRow (conditions : List Cond) (e : Election) (s : Standing) (row : List Content) : Type 0 where
   pub votes : Option ℕ

@@ -10,7 +10,8 @@ use Rattle.sl_report_parties.specs.Sums.{capped, is_alone_in, is_with, land_sum,
 use Rattle.sl_report_parties.specs.declared.parts.PartyPart.{PartyPart}
 use Rattle.sl_report_tables.specs.Columns.{listed}
 use Rattle.sl_report_tables.specs.Parts.{condition_cell, full_name, percent_cell, percent_exact_cell}
-use Rattle.sl_report_warnings.specs.Heads.{key_of}
+use Rattle.sl_explain_texts.specs.Codes.{code_word}
+use Rattle.sl_report_warnings.specs.Heads.{code_of, key_of}
 use Rattle.sl_report_warnings.specs.Warnings.{warnings_of}
 use Rattle.sl_report_warnings.specs.declared.warning.Warning.{Warning}
 use Rattle.sl_law_meaning.specs.book.Books.{book_of}
@@ -94,9 +95,9 @@ winners_table e = record {
 
 -- ---- warnings
 
--- its kind, and its sentence, of which no definition tells the words
+-- its code, its kind, and a sentence
 abbrev pub warning_row : Warning → List Content
-warning_row w = a_word (key_of w) (key_of w) ∷ prose ∷ []
+warning_row w = a_word (code_word (code_of w)) (code_word (code_of w)) ∷ a_word (key_of w) (key_of w) ∷ prose ∷ []
 
 abbrev pub warnings_table : List Warning → Table
 warnings_table warnings = record {

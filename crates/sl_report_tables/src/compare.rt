@@ -35,9 +35,14 @@ const BOOKS: [ColumnForm; 7] = [
     ("book", "book", "Regelwerk", Look::Text(20)),
     ("law", "law", "Gesetz", Look::Text(40)),
     ("seats", "seats", "Sitze", Look::Number),
-    ("beyond", "beyond", "darüber", Look::Number),
-    ("open", "not seated", "ohne Sitz", Look::Number),
-    ("differs", "differs from", "anders ab", Look::Text(12)),
+    ("beyond", "beyond", "über Hausgröße", Look::Number),
+    ("open", "not seated", "Sieger ohne Sitz", Look::Number),
+    (
+        "differs",
+        "differs from",
+        "erste andere Stufe",
+        Look::Text(12),
+    ),
     ("fault", "fault", "Fehler", Look::Text(14)),
 ];
 

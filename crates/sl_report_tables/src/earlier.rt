@@ -1,11 +1,11 @@
 //! An earlier seat table, read from the text that `count` wrote.
 
-ghost use Rattle.std.specs.List.{list_all, position};
-ghost use Rattle.std.specs.Prelude.{◌&&◌, ◌++◌, ◌∷◌, [], ◌≡◌, IfErr, IfOk, MatchOption, OnOk, false, filter_map, is_some, length, map, nat_lt, not, option_map, true};
-ghost use Rattle.sl_report_tables.specs.Earlier.{is_line, is_other, is_table, party_told, table_parties, told_party, words};
+ghost use Rattle.std.specs.List.{after_first, before_first, list_all, position};
+ghost use Rattle.std.specs.Prelude.{◌&&◌, ◌++◌, ◌∷◌, [], ◌≡◌, IfErr, IfOk, MatchOption, OnOk, false, filter_map, is_some, length, map, nat_eq, nat_lt, not, option_map, true};
+ghost use Rattle.sl_report_tables.specs.Earlier.{is_line, is_other, is_table, party_told, table_parties, spelled_or_zero, told_party, told_total, total_told, with_others, words};
 
 use sl_base_quotients::NoMemory;
-use sl_report_parties::EarlierParty;
+use sl_report_parties::{EarlierParty, all_before};
 use sl_returns::spelled_number;
 use std::alloc::Global;
 
@@ -30,6 +30,42 @@ fn party_in(line: &str) -> Option<EarlierParty<'_>>
     spelled_number(direct.as_bytes())?;
     let seats = spelled_number(seats.as_bytes())?;
     Some(EarlierParty { name, seats })
+}
+
+// The first word of a line, and what stands behind it.
+fn split_word(line: &str) -> (&str, &str)
+    ensures first { result.0.now ≡ before_first (λ b. nat_eq b 32) line.now }
+    ensures behind { result.1.now ≡ after_first (λ b. nat_eq b 32) line.now }
+{
+    match line.split_once(' ') {
+        Some(parts) => parts,
+        None => (line, ""),
+    }
+}
+
+// The number that a word spells, or 0.
+fn number_in(word: &str) -> u64
+    ensures { result ≡ spelled_or_zero word.now }
+{
+    spelled_number(word.as_bytes()).unwrap_or(0)
+}
+
+// The seats of a line that tells those of all, or 0.
+fn total_in(line: &str) -> u64
+    ensures { result ≡ told_total line.now }
+{
+    let (word, seats) = split_word(line);
+    if word == "total" { number_in(seats) } else { 0 }
+}
+
+// The seats of all, in the first of these lines.
+fn first_total(lines: &[&str]) -> u64
+    ensures { result ≡ total_told (map (λ l. l.now) lines.now) }
+{
+    match lines.first() {
+        Some(line) => total_in(*line),
+        None => 0,
+    }
 }
 
 // Whether the first word of a line is that of a line that tells no party.
@@ -91,7 +127,18 @@ fn parties_in<'a>(alloc: Global, lines: &[&'a str]) -> Result<Vec<EarlierParty<'
     Ok(found)
 }
 
-/// The parties of a seat table in the order of its lines, or the number of the first line, from 1, that is none of one.
+// The parties that lines tell, and without a name those who sit without a party.
+fn all_in<'a>(alloc: Global, lines: &[&'a str]) -> Result<Vec<EarlierParty<'a>>, NoMemory>
+    ensures { IfOk result (λ found. map party_told found.items ≡ with_others (map (λ l. l.now) lines.now)) }
+{
+    let mut found = parties_in(alloc, lines)?;
+    let seats = first_total(lines).saturating_sub(all_before(found.as_slice()));
+    found.push(EarlierParty { name: "", seats })?;
+    Ok(found)
+}
+
+/// The parties of a seat table in the order of its lines, and without a name those who sit without a party; or the number of the first line, from 1,
+/// that is none of a seat table.
 pub fn earlier_parties<'a>(
     alloc: Global,
     text: &'a str,
@@ -102,6 +149,6 @@ pub fn earlier_parties<'a>(
     let lines: Vec<&str> = text.lines().collect(alloc)?;
     match first_wrong(lines.as_slice()) {
         Some(wrong) => Ok(Err(wrong.saturating_add(1))),
-        None => Ok(Ok(parties_in(alloc, lines.as_slice())?)),
+        None => Ok(Ok(all_in(alloc, lines.as_slice())?)),
     }
 }

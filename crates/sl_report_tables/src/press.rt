@@ -8,7 +8,7 @@ ghost use Rattle.sl_report_forms.specs.Tables.{blank_table, contents_of, heads_o
 ghost use Rattle.sl_report_parties.specs.Earlier.{all_before};
 ghost use Rattle.sl_report_parties.specs.Press.{ArePressed};
 ghost use Rattle.sl_report_parties.specs.declared.press.Pressed.{Pressed};
-ghost use Rattle.sl_report_tables.specs.Press.{IsLackingRow, IsLackingTable, change_since, gone_row, gone_rows, is_whole, named_columns, press_row, press_table, sum_row};
+ghost use Rattle.sl_report_tables.specs.Press.{IsLackingRow, IsLackingTable, change_since, gone_row, gone_rows, is_whole, named_columns, others_before, others_row, others_rows, press_row, press_table, sum_row, won_cell};
 ghost use Rattle.sl_report_tables.specs.Reports.{IsPressReport};
 ghost use Rattle.sl_report_tables.specs.Scopes.{scopes_table};
 ghost use Rattle.sl_law_meaning.specs.book.Books.{book_of};
@@ -18,15 +18,15 @@ ghost use Rattle.sl_law_meaning.specs.returns.Facts.{all_valid_votes};
 use crate::counted::{all_scopes, law_sheet};
 use crate::full_names::FullNames;
 use crate::naming::owned;
-use crate::rows::{add_sheet, name, rounded};
+use crate::rows::{add_sheet, name, percent, rounded};
 use crate::scopes::{SCOPES, scope_row};
-use crate::texts::{LAST_SEATS_TITLE, LEFT_OUT_TITLE, PRESS_TITLE};
+use crate::texts::{LAST_SEATS_TITLE, LEFT_OUT_TITLE, PRESS_TITLE, WITHOUT_PARTY};
 use sl_base_quotients::NoMemory;
 use sl_explain_texts::Message;
 use sl_report_forms::{ALL, Cell, ColumnForm, Look, Sheet, Title};
 use sl_report_parties::{
     EarlierParty, Pressed, Setting, Standing, all_before, all_votes, by_seats, gone, lacking_votes,
-    lacking_winners, left_out, seats_in_all,
+    lacking_winners, left_out, seats_before, seats_in_all, seats_without_party, winners_of,
 };
 use sl_report_results::{Counted, Scoped};
 use sl_stages::{Item, Returns, Scope, Table};
@@ -58,7 +58,7 @@ const LEFT_OUT: [ColumnForm; 4] = [
     ("valid", "votes", "Stimmen", Look::Number),
     ("percent", "percent", "Prozent", Look::Number),
     ("votes_short", "lacks votes", "Stimmen fehlen", Look::Number),
-    ("winners_short", "lacks winners", "Wahlkreise fehlen", Look::Number),
+    ("winners_short", "lacks winners", "Sieger fehlen", Look::Number),
 ];
 
 // A sheet without rows, whose columns begin with the names of a party.
@@ -86,9 +86,26 @@ fn change(seats: u64, before: Option<u64>) -> Cell
     }
 }
 
+// A number of winners, where the returns have some.
+fn won(returns: &Returns, winners: u64) -> Cell
+    ensures { content_of result ≡ won_cell returns.now winners }
+{
+    if returns.wins() > 0 {
+        Cell::Number(winners)
+    } else {
+        Cell::Empty
+    }
+}
+
 // The row of a party, of so many valid votes in all.
-fn pressed_row(alloc: Global, pressed: Pressed, valid: u64) -> Result<Vec<Cell>, NoMemory>
-    ensures { IfOk result (λ row. contents_of row.items ≡ press_row valid pressed) }
+fn pressed_row(
+    alloc: Global,
+    returns: &Returns,
+    pressed: Pressed,
+    valid: u64,
+) -> Result<Vec<Cell>, NoMemory>
+    requires { valid ≡ all_valid_votes returns.now }
+    ensures { IfOk result (λ row. contents_of row.items ≡ press_row returns.now pressed) }
 {
     let votes = pressed.part.votes.valid;
     let seats = pressed.seats.seats;
@@ -98,8 +115,8 @@ fn pressed_row(alloc: Global, pressed: Pressed, valid: u64) -> Result<Vec<Cell>,
         Cell::Number(seats),
         Cell::known(pressed.before),
         change(seats, pressed.before),
-        Cell::Number(pressed.part.winners),
-        Cell::Number(pressed.seats.direct),
+        won(returns, pressed.part.winners),
+        won(returns, pressed.seats.direct),
         Cell::Number(votes),
         rounded(votes, valid),
     ]?)
@@ -134,8 +151,8 @@ fn sum_row(
         Cell::Number(all.seats),
         Cell::known(before),
         change(all.seats, before),
-        Cell::Number(returns.wins() as u64),
-        Cell::Number(all.direct),
+        won(returns, returns.wins() as u64),
+        won(returns, all.direct),
         Cell::Number(valid),
         rounded(valid, valid),
     ]?)
@@ -181,6 +198,56 @@ fn push_gone(
     Ok(())
 }
 
+// The seats of winners without a party in an earlier table, where one is given.
+fn others_before(earlier: Option<&[EarlierParty<'_>]>) -> Option<u64>
+    ensures { result ≡ others_before (option_map (λ all. all.now) earlier.entry) }
+{
+    match earlier {
+        Some(earlier) => Some(seats_before(b"", earlier)),
+        None => None,
+    }
+}
+
+// The row of the winners without a party, who are so many.
+fn others_row(
+    alloc: Global,
+    returns: &Returns,
+    table: &Table,
+    earlier: Option<&[EarlierParty<'_>]>,
+) -> Result<Vec<Cell>, NoMemory>
+    ensures { IfOk result (λ row. contents_of row.items ≡ others_row returns.now table.now (option_map (λ all. all.now) earlier.entry)) }
+{
+    let seats = seats_without_party(table, returns);
+    let before = others_before(earlier);
+    Ok(vec![in alloc;
+        Cell::Empty,
+        Cell::Word(WITHOUT_PARTY),
+        Cell::Number(seats),
+        Cell::known(before),
+        change(seats, before),
+        Cell::Number(winners_of(returns, None)),
+        Cell::Number(seats),
+        Cell::Empty,
+        Cell::Empty,
+    ]?)
+}
+
+// Adds the row of the winners without a party, where there are some, or some sat before.
+fn push_others(
+    alloc: Global,
+    sheet: &mut Sheet,
+    returns: &Returns,
+    table: &Table,
+    earlier: Option<&[EarlierParty<'_>]>,
+) -> Result<(), NoMemory>
+    ensures { OnOk result (table_of sheet.new ≡ with_rows (table_of sheet.old) (others_rows returns.now table.now (option_map (λ all. all.now) earlier.entry))) }
+{
+    if winners_of(returns, None) > 0 || others_before(earlier).unwrap_or(0) > 0 {
+        return sheet.push(others_row(alloc, returns, table, earlier)?);
+    }
+    Ok(())
+}
+
 // The parties with a seat or a constituency, now or before, and all together.
 fn press_sheet(
     alloc: Global,
@@ -199,9 +266,10 @@ fn press_sheet(
     let valid = all_votes(returns).valid;
     let mut sheet = named_sheet(alloc, "press", PRESS_TITLE, are_full, &PRESS)?;
     for pressed in found.as_slice() {
-        sheet.push(pressed_row(alloc, *pressed, valid)?)?;
+        sheet.push(pressed_row(alloc, returns, *pressed, valid)?)?;
     }
     push_gone(alloc, &mut sheet, full, returns, earlier)?;
+    push_others(alloc, &mut sheet, returns, table, earlier)?;
     sheet.push(sum_row(alloc, returns, table, earlier, valid)?)?;
     Ok(sheet)
 }
@@ -242,7 +310,7 @@ fn lacking_row(
         Cell::Entry(Item::Party(standing.party)),
         name(Item::Party(standing.party)),
         Cell::Number(part.votes.valid),
-        rounded(part.votes.valid, valid),
+        percent(part.votes.valid, valid),
         Cell::known(lacking_votes(conditions, part, valid)),
         Cell::known(lacking_winners(conditions, part)),
     ]?)

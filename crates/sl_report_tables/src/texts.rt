@@ -8,7 +8,7 @@ mod rows {
 
     // ---- faults
 
-    pub(crate) const FAULT_TITLE: Message = ("Legal fault", "Rechtlicher Fehler");
+    pub(crate) const FAULT_TITLE: Message = ("Legal fault", "Kein Ergebnis nach dem Gesetz");
     pub(crate) const EXPLANATION_TITLE: Message = ("Explanation", "Erklärung");
     pub(crate) const KIND_LIMIT: Message = ("limit", "Grenze");
     pub(crate) const KIND_SHORT: Message = ("short", "zu wenig Sitze");
@@ -57,6 +57,9 @@ mod rows {
 
     /// In place of the party of a winner who has none.
     pub(crate) const NO_PARTY: Message = ("-", "-");
+
+    /// The row of the winners who have none.
+    pub(crate) const WITHOUT_PARTY: Message = ("without a party", "ohne Partei");
 
     // ---- words
 

@@ -22,12 +22,12 @@ use std::alloc::Global;
 
 const TOTALS: [ColumnForm; 8] = [
     ("valid", "valid", "gültig", Look::Number),
-    ("counted", "counted", "zählend", Look::Number),
+    ("counted", "counted", "gezählt", Look::Number),
     ("people", "people", "Einwohner", Look::Number),
     ("lands", "Länder", "Länder", Look::Number),
     ("parties", "parties", "Parteien", Look::Number),
     ("lists", "lists", "Listen", Look::Number),
-    ("winners", "winners", "Wahlkreise", Look::Number),
+    ("winners", "winners", "Sieger", Look::Number),
     ("independents", "without party", "ohne Partei", Look::Number),
 ];
 
@@ -38,12 +38,12 @@ const VOTES: [ColumnForm; 11] = [
     ("valid", "valid", "gültig", Look::Number),
     ("percent", "percent", "Prozent", Look::Number),
     ("percent_exact", "", "", Look::Hidden),
-    ("counted", "counted", "zählend", Look::Number),
+    ("counted", "counted", "gezählt", Look::Number),
     ("lists", "", "", Look::Hidden),
-    ("winners", "winners", "Wahlkreise", Look::Number),
-    ("condition", "takes part by", "nimmt teil durch", Look::Text(14)),
+    ("winners", "winners", "Sieger", Look::Number),
+    ("condition", "takes part by", "zugelassen durch", Look::Text(14)),
     ("votes_short", "lacks votes", "Stimmen fehlen", Look::Number),
-    ("winners_short", "lacks winners", "Wahlkreise fehlen", Look::Number),
+    ("winners_short", "lacks winners", "Sieger fehlen", Look::Number),
 ];
 
 const LANDS: [ColumnForm; 7] = [
@@ -51,8 +51,8 @@ const LANDS: [ColumnForm; 7] = [
     ("land_name", "Land", "Land", Look::Text(30)),
     ("people", "people", "Einwohner", Look::Number),
     ("valid", "valid", "gültig", Look::Number),
-    ("counted", "counted", "zählend", Look::Number),
-    ("winners", "winners", "Wahlkreise", Look::Number),
+    ("counted", "counted", "gezählt", Look::Number),
+    ("winners", "winners", "Sieger", Look::Number),
     ("independents", "without party", "ohne Partei", Look::Number),
 ];
 
@@ -61,7 +61,7 @@ const WINNERS: [ColumnForm; 5] = [
     ("land_name", "Land", "Land", Look::Text(34)),
     ("party", "", "", Look::Hidden),
     ("party_name", "party", "Partei", Look::Text(34)),
-    ("winners", "winners", "Wahlkreise", Look::Number),
+    ("winners", "winners", "Sieger", Look::Number),
 ];
 
 // The sums of all returns.

@@ -16,12 +16,13 @@ use sl_report_warnings::{Warning, sentence, warnings_of};
 use sl_stages::{Book, Returns};
 use std::alloc::Global;
 
-const WARNINGS: [ColumnForm; 2] = [
+const WARNINGS: [ColumnForm; 3] = [
+    ("code", "code", "Code", Look::Text(4)),
     ("warning", "", "", Look::Hidden),
-    ("text", "warning", "Warnung", Look::Text(98)),
+    ("text", "warning", "Warnung", Look::Text(93)),
 ];
 
-// The row of a warning: its kind, and its sentence.
+// The row of a warning: its code, its kind, and its sentence.
 fn warning_row(
     alloc: Global,
     language: Language,
@@ -32,7 +33,8 @@ fn warning_row(
 {
     let text = sentence(alloc, language, returns, warning)?;
     let text = owned(alloc, text_of(text.as_slice()))?;
-    Ok(vec![in alloc; keyword(warning.key()), Cell::Prose(text)]?)
+    let code = keyword(warning.code().word());
+    Ok(vec![in alloc; code, keyword(warning.key()), Cell::Prose(text)]?)
 }
 
 /// What is likely a mistake in the returns, and with a book, in the two together.

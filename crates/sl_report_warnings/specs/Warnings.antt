@@ -1,10 +1,14 @@
 -- What is likely a mistake in returns, and in a rulebook and returns together (docs/returns.md, section 7).
 use Rattle.std.specs.List.{list_all, list_any, range_with_len}
-use Rattle.std.specs.Prelude.{Bool, List, None, Option, Some, [], codes, count_by, false, flat_map, if◌then◌else◌, is_some, length, nat_eq, nat_le, not, slice_get, slice_index, true, ◌&&◌, ◌++◌, ◌∷◌, ℕ}
+use Rattle.std.specs.Prelude.{Bool, List, None, Option, Some, [], codes, count_by, false, filter, flat_map, if◌then◌else◌, is_some, length, nat_eq, nat_le, nat_lt, not, slice_get, slice_index, slice_index_or, true, unwrap_or, ◌&&◌, ◌*◌, ◌+◌, ◌++◌, ◌||◌, ◌∷◌, ℕ}
 use Rattle.std.specs.Str.{bytes_eq, str_eq_ignore_ascii_case}
 use Rattle.sl_check.specs.Drawn.{given_shape}
+use Rattle.sl_check.specs.Names.{names_one_of}
+use Rattle.sl_explain_texts.specs.Sums.{is_sum}
 use Rattle.sl_report_parties.specs.Cells.{is_won}
-use Rattle.sl_report_parties.specs.Sums.{lists_of}
+use Rattle.sl_report_parties.specs.Sums.{first_votes_in, land_sum, lists_of}
+use Rattle.sl_law_meaning.specs.declared.book.Base.TheVariants as base
+use Rattle.sl_law_meaning.specs.declared.book.Base.{Base}
 use Rattle.sl_law_meaning.specs.book.Trees.{BookTree, StageTree}
 use Rattle.sl_law_meaning.specs.book.Typing.{Column, columns_of}
 use Rattle.sl_law_meaning.specs.declared.book.Cond.TheVariants as condition
@@ -15,10 +19,10 @@ use Rattle.sl_law_meaning.specs.declared.election.ListVotes.{ListVotes}
 use Rattle.sl_law_meaning.specs.declared.election.Lot.{Lot}
 use Rattle.sl_law_meaning.specs.meaning.Lots.{given_entry, given_winner}
 use Rattle.sl_law_meaning.specs.returns.Election.{Election, has_list, lands_of, list_at, parties_of, wins_of}
-use Rattle.sl_law_meaning.specs.returns.Facts.{is_in, is_of, lands, parties}
+use Rattle.sl_law_meaning.specs.returns.Facts.{all_valid_votes, is_eligible, is_in, is_of, lands, parties, takes_part}
 use Rattle.sl_law_meaning.specs.returns.Votes.{counted_in, valid_in}
 use Rattle.sl_base_terms.specs.declared.shape.Shape.{Shape}
-use Rattle.sl_report_warnings.specs.declared.warning.Warning.TheVariants.{EqualPeople, FewParties, LandWithoutWinners, LotOfNoEntry, LotUnused, NothingCounted, OtherHouse, SeveralParties, WinnersBesideLists, WinnersWithoutList}
+use Rattle.sl_report_warnings.specs.declared.warning.Warning.TheVariants.{EqualPeople, FewParties, FewSecondVotes, FewVotes, LandIsSum, LandWithoutVotes, LandWithoutWinners, LotOfNoEntry, LotOfNoSeats, LotUnused, MinorityEverywhere, MoreVotesThanPeople, NothingCounted, OnePartyAlone, OtherHouse, SeveralParties, StageUnused, SumOfParties, WinnersBesideLists, WinnersWithoutList}
 use Rattle.sl_report_warnings.specs.declared.warning.Warning.{Warning}
 
 -- a warning where something holds, and none elsewhere
@@ -38,8 +42,38 @@ of_people e = warned (are_alike e) EqualPeople
 abbrev pub has_none : Election → ℕ → Bool
 has_none e land = nat_le 1 (wins_of e) && nat_eq (count_by (is_in land) e.wins) 0
 
+-- the valid votes of the lists in a Land
+abbrev pub votes_in : Election → ℕ → ℕ
+votes_in e land = land_sum valid_in e land
+
+abbrev pub people_in : Election → ℕ → ℕ
+people_in e land = slice_index_or e.populations land 0
+
+-- people and no valid vote, where there are some elsewhere
+abbrev pub has_no_votes : Election → ℕ → Bool
+has_no_votes e land = nat_le 1 (people_in e land) && (nat_eq (votes_in e land) 0 && nat_le 1 (all_valid_votes e))
+
+-- more valid votes than people
+abbrev pub has_few_people : Election → ℕ → Bool
+has_few_people e land = nat_le 1 (people_in e land) && nat_lt (people_in e land) (votes_in e land)
+
+-- not half as many second votes as first votes
+abbrev pub has_few_votes : Election → ℕ → Bool
+has_few_votes e land = nat_le 1 (votes_in e land) && nat_lt (2 * votes_in e land) (first_votes_in e land)
+
+-- one of three Länder or more, with as many votes as all others together
+abbrev pub is_sum_of_others : Election → ℕ → Bool
+is_sum_of_others e land = nat_le 3 (lands_of e) && (nat_le 1 (votes_in e land) && nat_eq (2 * votes_in e land) (all_valid_votes e))
+
+abbrev pub of_votes : Election → ℕ → List Warning
+of_votes e land =
+    ((warned (has_no_votes e land) (LandWithoutVotes land)
+    ++ warned (has_few_people e land) (MoreVotesThanPeople land (votes_in e land) (people_in e land)))
+    ++ warned (has_few_votes e land) (FewSecondVotes land (votes_in e land) (first_votes_in e land)))
+    ++ warned (is_sum_of_others e land) (LandIsSum land)
+
 abbrev pub of_land : Election → ℕ → List Warning
-of_land e land = warned (has_none e land) (LandWithoutWinners land)
+of_land e land = warned (has_none e land) (LandWithoutWinners land) ++ of_votes e land
 
 -- the winners of a party in a Land in which it has no list
 abbrev pub winners_beside : Election → ℕ → ℕ → ℕ
@@ -78,11 +112,24 @@ abbrev pub has_name_of_many : Option (List ℕ) → Bool
 has_name_of_many None = false
 has_name_of_many (Some name) = is_many name
 
+-- a name that is a word for a sum
+abbrev pub has_name_of_sum : Option (List ℕ) → Bool
+has_name_of_sum None = false
+has_name_of_sum (Some name) = is_sum name
+
 abbrev pub of_name : Election → ℕ → List Warning
-of_name e party = warned (has_name_of_many (slice_get e.party_names party)) (SeveralParties party)
+of_name e party =
+    warned (has_name_of_many (slice_get e.party_names party)) (SeveralParties party) ++ warned (has_name_of_sum (slice_get e.party_names party)) (SumOfParties party)
+
+-- a party of a national minority that has a list in each of three Länder or more
+abbrev pub is_everywhere : Election → ℕ → Bool
+is_everywhere e party = slice_index_or e.minorities party false && (nat_le 3 (lands_of e) && nat_eq (lists_of e party) (lands_of e))
+
+abbrev pub of_minority : Election → ℕ → List Warning
+of_minority e party = warned (is_everywhere e party) (MinorityEverywhere party)
 
 abbrev pub of_party : Election → ℕ → List Warning
-of_party e party = (of_winners e party ++ of_counted e party) ++ of_name e party
+of_party e party = ((of_winners e party ++ of_counted e party) ++ of_name e party) ++ of_minority e party
 
 abbrev pub of_returns : Election → List Warning
 of_returns e = (of_people e ++ flat_map (of_land e) (lands e)) ++ flat_map (of_party e) (parties e)
@@ -113,6 +160,17 @@ is_threshold (condition.Winners least) = false
 is_threshold condition.Minority = false
 is_threshold condition.All = false
 
+-- one of several parties that takes part alone
+abbrev pub of_takers : Election → List ℕ → List Warning
+of_takers e [] = []
+of_takers e (party ∷ []) = warned (nat_le 2 (parties_of e)) (OnePartyAlone party)
+of_takers e (party ∷ other ∷ others) = []
+
+-- the last clause distributes the seats of that stage
+abbrev pub is_base : List ℕ → Base → Bool
+is_base name base.Winners = false
+is_base name (base.Stage own) = bytes_eq own name
+
 module _ (b : BookTree) where
   -- the shape at the stage that a lot names
   abbrev pub lot_shape : Lot → Option Shape
@@ -126,8 +184,20 @@ module _ (b : BookTree) where
   abbrev pub has_entry : Election → Lot → Bool
   has_entry e l = if is_last l then is_some (given_winner e l) else names_entry (lot_shape l) l
 
+  -- it names a party that takes no part, or a list that does not exist
+  abbrev pub has_no_seats : Election → Lot → Bool
+  has_no_seats e l = are_without l.land l.party where
+    are_without : Option ℕ → Option ℕ → Bool
+    are_without land None = false
+    are_without None (Some party) = not (is_eligible b.eligible e party)
+    are_without (Some land) (Some party) = not (takes_part b.eligible e land party)
+
+  -- of a lot that has a place: that it names nobody there, or one that gets no seats
+  abbrev pub of_placed : Election → ℕ → Lot → List Warning
+  of_placed e number l = if has_entry e l then warned (has_no_seats e l) (LotOfNoSeats number) else LotOfNoEntry number (lot_shape l) ∷ []
+
   abbrev pub of_lot : Election → ℕ → Lot → List Warning
-  of_lot e number l = if has_place l then warned (not (has_entry e l)) (LotOfNoEntry number) else LotUnused number ∷ []
+  of_lot e number l = if has_place l then of_placed e number l else LotUnused number ∷ []
 
   -- of the lot of that number
   abbrev pub of_numbered : Election → ℕ → List Warning
@@ -145,8 +215,35 @@ module _ (b : BookTree) where
   abbrev pub are_few : Election → Bool
   are_few e = not (nat_le 10 (parties_of e)) && list_any is_threshold b.eligible
 
+  -- a house of a hundred seats or more, with valid votes and fewer than a hundred for each seat
+  abbrev pub house_for : Election → ℕ
+  house_for e = unwrap_or e.house b.house.value
+
+  abbrev pub has_few : Election → Bool
+  has_few e = nat_le 100 (house_for e) && (nat_le 1 (all_valid_votes e) && nat_lt (all_valid_votes e) (100 * house_for e))
+
+  -- the parties that take part
+  abbrev pub taking_part : Election → List ℕ
+  taking_part e = filter (is_eligible b.eligible e) (parties e)
+
+  -- the last clause or a stage names that stage
+  abbrev pub is_named : List ℕ → Bool
+  is_named name = is_base name b.last.base || list_any (λ s. names_one_of (name ∷ []) s.expr) b.stages
+
+  -- of the stage of that number
+  abbrev pub of_stage : ℕ → List Warning
+  of_stage number = of_some (slice_get b.stages number) where
+    of_some : Option StageTree → List Warning
+    of_some None = []
+    of_some (Some s) = warned (not (is_named s.name)) (StageUnused (number + 1))
+
+  abbrev pub of_numbers : Election → List Warning
+  of_numbers e = (of_house e.house ++ warned (are_few e) (FewParties (parties_of e))) ++ warned (has_few e) (FewVotes (all_valid_votes e) (house_for e))
+
   abbrev pub of_book : Election → List Warning
-  of_book e = (flat_map (of_numbered e) (range_with_len 0 (length e.lots)) ++ of_house e.house) ++ warned (are_few e) (FewParties (parties_of e))
+  of_book e =
+      ((flat_map (of_numbered e) (range_with_len 0 (length e.lots)) ++ of_numbers e) ++ of_takers e (taking_part e))
+      ++ flat_map of_stage (range_with_len 0 (length b.stages))
 
 -- of the returns, and with a rulebook of both
 abbrev pub warnings_of : Option BookTree → Election → List Warning

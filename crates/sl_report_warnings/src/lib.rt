@@ -6,8 +6,10 @@
 #![tactic(auto)]
 
 mod book;
+mod lots;
 mod returns;
 mod sentences;
+mod takers;
 mod texts;
 mod warning;
 

@@ -4,12 +4,13 @@ ghost use Rattle.std.specs.List.{list_all};
 ghost use Rattle.std.specs.Prelude.{◌≡◌, ◌<◌, ◌++◌, OnOk, flat_map, nat_eq, slice_get};
 ghost use Rattle.std.specs.Str.{str_eq_ignore_ascii_case};
 ghost use Rattle.sl_law_meaning.specs.returns.Election.{lands_of, list_at, parties_of};
-ghost use Rattle.sl_law_meaning.specs.returns.Facts.{lands, parties};
-ghost use Rattle.sl_report_warnings.specs.Warnings.{are_alike, counts_none, has_name_of_many, has_none, is_many, of_land, of_party, of_place, of_returns, of_winners, uncounted_lists, warned, winners_beside};
+ghost use Rattle.sl_law_meaning.specs.returns.Facts.{all_valid_votes, lands, parties};
+ghost use Rattle.sl_report_warnings.specs.Warnings.{are_alike, counts_none, has_name_of_many, has_name_of_sum, has_none, is_everywhere, is_many, of_land, of_name, of_party, of_place, of_returns, of_votes, of_winners, uncounted_lists, warned, winners_beside};
 
 use crate::warning::Warning;
 use sl_base_quotients::NoMemory;
-use sl_report_parties::{WinnerCounts, lists_of, one_if};
+use sl_explain_texts::is_sum;
+use sl_report_parties::{WinnerCounts, all_votes, first_votes_in, land_votes, lists_of, one_if};
 use sl_stages::Returns;
 
 /// Adds a warning where something holds.
@@ -49,24 +50,64 @@ fn has_none(counts: &WinnerCounts<'_>, land: usize) -> bool
     counts.returns.wins() >= 1 && counts.in_land(land) == 0
 }
 
-// Warns of a Land without winners.
+// Warns of votes in a Land that cannot be, where there are so many valid votes in all.
+#[tactic(auto, using(std::proofs::Common::append_assoc))]
+fn warn_of_votes(
+    found: &mut Vec<Warning>,
+    returns: &Returns,
+    all: u64,
+    land: usize,
+) -> Result<(), NoMemory>
+    requires land { land < lands_of returns.now }
+    requires all { all ≡ all_valid_votes returns.now }
+    ensures { OnOk result (found.new.items ≡ found.old.items ++ of_votes returns.now land) }
+{
+    let votes = land_votes(returns, land).valid;
+    let people = returns.population(land);
+    let first = first_votes_in(returns, land);
+    let twice = 2 * u128::from(votes);
+    let has_none = people >= 1 && (votes == 0 && all >= 1);
+    warn(found, has_none, Warning::LandWithoutVotes { land })?;
+    let has_more = people >= 1 && u64::from(people) < votes;
+    let warning = Warning::MoreVotesThanPeople {
+        land,
+        votes,
+        people,
+    };
+    warn(found, has_more, warning)?;
+    let has_few = votes >= 1 && twice < u128::from(first);
+    warn(
+        found,
+        has_few,
+        Warning::FewSecondVotes { land, votes, first },
+    )?;
+    let is_sum = returns.lands() >= 3 && (votes >= 1 && twice == u128::from(all));
+    warn(found, is_sum, Warning::LandIsSum { land })
+}
+
+// Warns of a Land without winners, and of votes that cannot be.
+#[tactic(auto, using(std::proofs::Common::append_assoc))]
 fn warn_of_land(
     found: &mut Vec<Warning>,
     counts: &WinnerCounts<'_>,
+    all: u64,
     land: usize,
 ) -> Result<(), NoMemory>
-    requires { land < lands_of counts.now.returns.now }
+    requires land { land < lands_of counts.now.returns.now }
+    requires all { all ≡ all_valid_votes counts.now.returns.now }
     ensures { OnOk result (found.new.items ≡ found.old.items ++ of_land counts.now.returns.now land) }
 {
     let has_none = has_none(counts, land);
-    warn(found, has_none, Warning::LandWithoutWinners { land })
+    warn(found, has_none, Warning::LandWithoutWinners { land })?;
+    warn_of_votes(found, counts.returns, all, land)
 }
 
 fn warn_of_lands(found: &mut Vec<Warning>, counts: &WinnerCounts<'_>) -> Result<(), NoMemory>
     ensures { OnOk result (found.new.items ≡ found.old.items ++ flat_map (of_land counts.now.returns.now) (lands counts.now.returns.now)) }
 {
+    let all = all_votes(counts.returns).valid;
     for land in 0..counts.returns.lands() {
-        warn_of_land(found, counts, land)?;
+        warn_of_land(found, counts, all, land)?;
     }
     Ok(())
 }
@@ -192,6 +233,35 @@ fn has_name_of_many(returns: &Returns, party: usize) -> bool
     is_many(returns.party_name(party))
 }
 
+// Whether the name of a party is a word for a sum.
+fn has_name_of_sum(returns: &Returns, party: usize) -> bool
+    requires { party < parties_of returns.now }
+    ensures { result ≡ has_name_of_sum (slice_get returns.now.party_names party) }
+{
+    is_sum(returns.party_name(party))
+}
+
+// Warns of the name of a party.
+#[tactic(auto, using(std::proofs::Common::append_assoc))]
+fn warn_of_name(found: &mut Vec<Warning>, returns: &Returns, party: usize) -> Result<(), NoMemory>
+    requires { party < parties_of returns.now }
+    ensures { OnOk result (found.new.items ≡ found.old.items ++ of_name returns.now party) }
+{
+    let is_many = has_name_of_many(returns, party);
+    warn(found, is_many, Warning::SeveralParties { party })?;
+    let is_sum = has_name_of_sum(returns, party);
+    warn(found, is_sum, Warning::SumOfParties { party })
+}
+
+// Whether a party is one of a national minority, with a list in each of three Länder or more.
+fn is_everywhere(returns: &Returns, party: usize) -> bool
+    requires { party < parties_of returns.now }
+    ensures { result ≡ is_everywhere returns.now party }
+{
+    let lands = returns.lands();
+    returns.minority(party) && (lands >= 3 && lists_of(returns, party) == lands as u64)
+}
+
 // Warns of what is likely a mistake of a party.
 #[tactic(auto, using(std::proofs::Common::append_assoc))]
 fn warn_of_party(
@@ -205,8 +275,9 @@ fn warn_of_party(
     warn_of_winners(found, counts, party)?;
     let lists = uncounted_lists(counts.returns, party);
     warn(found, lists >= 1, Warning::NothingCounted { party, lists })?;
-    let is_many = has_name_of_many(counts.returns, party);
-    warn(found, is_many, Warning::SeveralParties { party })
+    warn_of_name(found, counts.returns, party)?;
+    let is_everywhere = is_everywhere(counts.returns, party);
+    warn(found, is_everywhere, Warning::MinorityEverywhere { party })
 }
 
 // Warns of what is likely a mistake of a party, for each.

@@ -23,13 +23,13 @@ pub data Said : Type 0 where
   warned : (e : Election) (ws : List Warning) → Said
 
 -- the page of an explanation of that fault: of some bytes of a file, if it speaks of one
-abbrev pub Explains : Language → Subject → List ℕ → Type 0
-Explains language s text = (path : Option (List ℕ)) × (input : List ℕ) × (x : Explanation) × (x.code ≡ s.code) × (text ≡ page_of language path input x)
+abbrev pub IsPage : Language → Subject → List ℕ → Type 0
+IsPage language s text = (path : Option (List ℕ)) × (input : List ℕ) × (x : Explanation) × (x.code ≡ s.code) × (text ≡ page_of language path input x)
 
 -- a text that says it in a language: the page of an explanation, or the warnings as lines, with the names of the returns
 abbrev pub IsSaid : Language → Said → List ℕ → Type 0
 IsSaid language nothing text = text ≡ []
-IsSaid language (fault s) text = Explains language s text
+IsSaid language (fault s) text = IsPage language s text
 IsSaid language (warned e ws) text = text ≡ warning_lines language e ws
 
 -- a text of no more than warnings

@@ -352,8 +352,8 @@ pub(crate) mod words {
         "Jedes Regelwerk auch mit diesem Verfahren in allen Verteilungen; darf mehrfach stehen");
     pub(crate) const NAMES_HELP: Message = ("Full names: the path of a CSV file of short and full ones",
         "Volle Namen: der Pfad einer CSV-Datei mit kurzen und vollen");
-    pub(crate) const QUIET_HELP: Message = ("Omits explanations on standard error",
-        "Lässt Erklärungen auf der Fehlerausgabe weg");
+    pub(crate) const QUIET_HELP: Message = ("Omits explanations and warnings on standard error",
+        "Lässt Erklärungen und Warnungen auf der Fehlerausgabe weg");
     pub(crate) const LANGUAGE_VALUE: Message = ("LANGUAGE", "SPRACHE");
     pub(crate) const LANGUAGE_HELP: Message = ("The language of explanations, else that of the environment",
         "Die Sprache der Erklärungen, sonst die der Umgebung");

@@ -8,7 +8,7 @@ ghost use Rattle.sl_law_meaning.specs.book.Trees.{stage_of};
 
 use super::Written;
 use super::columns::{column_words, types_of};
-use crate::near::{columns_of_returns, help_nearest_stage, help_stages, listed};
+use crate::near::{columns_of_returns, help_nearest_stage, help_stages};
 use crate::texts::tests as texts;
 use sl_base_quotients::NoMemory;
 use sl_check::Columns;
@@ -76,7 +76,7 @@ fn explain_no_column(written: &Written<'_>, at: usize) -> Result<Explainer, NoMe
     let columns = columns.as_slice();
     let stages = above(written.stages(), at);
     let mut explainer = explain_no_name(written, at, &texts::UNKNOWN, stages, columns)?;
-    explainer.helps_with(&texts::FACTS, listed(written.speaker, columns));
+    explainer.helps_with(&texts::FACTS, written.speaker.all_quoted(columns));
     Ok(explainer)
 }
 
@@ -116,7 +116,7 @@ fn fitting(speaker: Speaker, stages: &[Stage], types: &[ColumnType]) -> Result<V
             names.push(stage.name.as_bytes())?;
         }
     }
-    listed(speaker, names.as_slice())
+    speaker.all_quoted(names.as_slice())
 }
 
 // What the column of the stage that the last clause names has.

@@ -1,8 +1,8 @@
--- What is said of winners, of lists that count no vote, and of a name of several parties.
-use Rattle.std.proofs.Common.{◌≡◌, ◌∷◌, [], IfOk, List, subst, ℕ}
+-- What is said of winners, of lists that count no vote, of a name of several parties, and of a lot.
+use Rattle.std.proofs.Common.{◌≡◌, ◌∷◌, [], IfOk, List, codes, subst, ℕ}
 use Rattle.sl_explain_texts.specs.Languages.{row}
-use Rattle.sl_explain_texts.specs.Messages.{says}
-use Rattle.sl_report_warnings.specs.Sentences.{lists_in, name_at, winners_in}
+use Rattle.sl_explain_texts.specs.Messages.{said, says}
+use Rattle.sl_report_warnings.specs.Sentences.{lists_in, name_at, no_entry, winners_in}
 use Rattle.sl_report_warnings.specs.declared.texts.rows.TheConstants.{NOTHING_COUNTED, SEVERAL_PARTIES, WINNERS_BESIDE_LISTS, WINNERS_WITHOUT_LIST}
 use Rattle.sl_report_warnings.proofs.sentences.sentence.Goals as goal
 
@@ -30,3 +30,8 @@ pub returns-in-SeveralParties : goal.returns-in-SeveralParties
 returns-in-SeveralParties c =
     rw c.in-SeveralParties.is (subst (λ p. IfOk c.text-in-SeveralParties.result (λ text. text.items ≡ says c.args.language (row SEVERAL_PARTIES) (p ∷ [])))
     c.party_name-in-SeveralParties.ensures c.text-in-SeveralParties.ensures)
+
+pub returns-in-LotOfNoEntry : goal.returns-in-LotOfNoEntry
+returns-in-LotOfNoEntry c =
+    rw c.in-LotOfNoEntry.is (subst (λ stage. IfOk c.entry_sentence.result (λ text. text.items ≡ said c.args.language (no_entry c.in-LotOfNoEntry.shape) ((codes "stage", stage) ∷ [])))
+    c.lot_stage-stage.ensures c.entry_sentence.ensures)

@@ -5,11 +5,11 @@ use Rattle.sl_explain_calls.specs.Codes.{subject_of}
 use Rattle.sl_explain_calls.specs.declared.explained.Explained.{Explained}
 use Rattle.sl_explain_texts.specs.Pages.{page_of}
 use Rattle.sl_explain_texts.specs.declared.language.Language.{Language}
-use Rattle.sl_terminal_commands.specs.Said.{Explains}
+use Rattle.sl_terminal_commands.specs.Said.{IsPage}
 use Rattle.sl_terminal_commands.proofs.answered.explained_text.Goals as goal
 
 page_said : {E : Type 0} (r : Result (Vec ℕ) E) (language : Language) (told : Explained) (path : Option (List ℕ)) (input : List ℕ)
-    → IfOk r (λ text. text.items ≡ page_of language path input told.explanation) → IfOk r (λ text. Explains language (subject_of told) text.items)
+    → IfOk r (λ text. text.items ≡ page_of language path input told.explanation) → IfOk r (λ text. IsPage language (subject_of told) text.items)
 page_said (Ok text) language told path input is = (path, input, told.explanation, refl, is)
 page_said (Err e) language told path input is = tt
 

@@ -3,7 +3,7 @@ use Rattle.std.proofs.lemmas.Option.{slice_get-get_or}
 use Rattle.std.specs.Prelude.{slice_get}
 use Rattle.sl_law_meaning.specs.book.Books.{book_of}
 use Rattle.sl_report_warnings.proofs.Pieces.{numbered, pieces_behind, pieces_end}
-use Rattle.sl_report_warnings.proofs.book.warn_of_lots.Goals as goal
+use Rattle.sl_report_warnings.proofs.lots.warn_of_lots.Goals as goal
 use Rattle.sl_report_warnings.specs.Warnings.{of_numbered}
 
 pub loop-number-preserved : goal.loop-number-preserved

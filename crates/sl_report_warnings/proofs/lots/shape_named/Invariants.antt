@@ -3,7 +3,7 @@ use Rattle.std.proofs.Common.{drop, map, ◌≡◌}
 use Rattle.sl_check.specs.inner.Known.{columns}
 use Rattle.sl_law_meaning.specs.book.Trees.{stage_of}
 use Rattle.sl_report_warnings.specs.Warnings.{shape_named}
-use Rattle.sl_report_warnings.proofs.book.shape_named.Given as goal
+use Rattle.sl_report_warnings.proofs.lots.shape_named.Given as goal
 
 abbrev pub invariant-loop-stage : goal.invariant-loop-stage
 invariant-loop-stage l =

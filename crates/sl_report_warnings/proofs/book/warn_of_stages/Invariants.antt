@@ -1,0 +1,8 @@
+use Rattle.std.proofs.Common.{◌++◌, ◌≡◌}
+use Rattle.std.specs.List.{flat_map, range_with_len}
+use Rattle.sl_law_meaning.specs.book.Books.{book_of}
+use Rattle.sl_report_warnings.specs.Warnings.{of_stage}
+use Rattle.sl_report_warnings.proofs.book.warn_of_stages.Given as goal
+
+abbrev pub invariant-loop-number : goal.invariant-loop-number
+invariant-loop-number l = l.found.items ≡ l.initial.found.items ++ flat_map (of_stage (book_of l.book)) (range_with_len 0 l.number)
